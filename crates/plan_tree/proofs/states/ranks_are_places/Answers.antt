@@ -1,0 +1,8 @@
+use Rattle.plan_tree.proofs.states.ranks_are_places.Goals as goal
+use Rattle.plan_tree.proofs.Ranked.{ranks_are_places, ranks_exact}
+
+pub returns-clause-places : goal.returns-clause-places
+returns-clause-places c = ranks_are_places
+
+pub returns-clause-exact : goal.returns-clause-exact
+returns-clause-exact c = ranks_exact

@@ -1,0 +1,44 @@
+-- The bytes of a suspended plan.
+use Rattle.std.specs.Prelude.{ℕ, ◌+◌, List, [], ◌∷◌, ◌++◌, flat_map}
+use Rattle.std.specs.Int.{w32, to_be_bytes}
+use Rattle.sha2.specs.Sha256.{sha256}
+use Rattle.term_core.specs.declared.term.Triple.{Triple}
+use Rattle.term_core.specs.declared.pattern.IdTriple.{IdTriple}
+use Rattle.term_core.specs.Texts.{triple_text}
+use Rattle.plan_tree.specs.Index.{by_subject, triple_cmp, in_order}
+use Rattle.plan_tree.specs.Trace.{Plan, rows_plan, join_plan, project_plan}
+use Rattle.plan_tree.specs.States.{Inner, idle, opened, at_triple, State, done, table_state, join_state}
+
+-- The name of the data: SHA-256 (FIPS 180-4) of the lines of its triples, ordered by subject, predicate and object.
+abbrev pub data_id : List Triple → List ℕ
+data_id D = sha256 (flat_map triple_text (in_order (triple_cmp by_subject) D))
+
+-- a number in four bytes, the highest first
+abbrev pub number_bytes : ℕ → List ℕ
+number_bytes n = to_be_bytes w32 n
+
+-- the three numbers, subject first
+abbrev pub ids_bytes : IdTriple → List ℕ
+ids_bytes ids = number_bytes ids.s ++ (number_bytes ids.p ++ number_bytes ids.o)
+
+-- a join's last part: 0, or 1, or 2 and the triple
+abbrev pub inner_bytes : Inner → List ℕ
+inner_bytes idle = 0 ∷ []
+inner_bytes opened = 1 ∷ []
+inner_bytes (at_triple ids) = 2 ∷ ids_bytes ids
+
+-- A state by cases of the plan. Restricting rows keeps no state of its own.
+abbrev pub state_bytes : State → List ℕ
+state_bytes done = 0 ∷ []
+state_bytes (table_state place) = 1 ∷ number_bytes place
+state_bytes (join_state left inner) = 2 ∷ (state_bytes left ++ inner_bytes inner)
+
+-- A suspended plan: the version, the data's name, the name of the part's text, the state.
+abbrev pub plan_bytes : List Triple → List ℕ → State → List ℕ
+plan_bytes D text state = 2 ∷ (data_id D ++ (sha256 text ++ state_bytes state))
+
+-- how many parts a plan has
+abbrev pub nodes : Plan → ℕ
+nodes (rows_plan rows) = 1
+nodes (join_plan left p) = nodes left + 1
+nodes (project_plan inner names) = nodes inner + 1

@@ -1,0 +1,143 @@
+-- What is proved of states, of their bytes and of pages.
+use Rattle.std.specs.Prelude.{◌≡◌, ℕ, ◌+◌, ◌*◌, ◌^◌, ◌≤◌, ◌<◌, List, length, take, drop, slice_get, Option, Some}
+use Rattle.std.specs.List.Sorted.{IsStrictlySortedBy}
+use Rattle.sha2.specs.Sha256.{sha256}
+use Rattle.term_core.specs.declared.term.Term.{Term}
+use Rattle.term_core.specs.declared.term.Triple.{Triple}
+use Rattle.term_core.specs.Bags.{In}
+use Rattle.term_core.specs.Order.{term_cmp}
+use Rattle.sparql_tree.specs.Bgp.{terms_of}
+use Rattle.sparql_tree.specs.Laws.{HaveSame}
+use Rattle.plan_tree.specs.Trace.{Plan, rows_plan, join_plan, project_plan, trace, steps, rows_of}
+use Rattle.plan_tree.specs.States.{rank, ids_of, State, Stands, StandsAt}
+use Rattle.plan_tree.specs.Spelling.{data_id, state_bytes, plan_bytes, nodes}
+use Rattle.plan_tree.specs.Pages.{Page, IsNext, page_end, IsPage, IsRun, rows_in, steps_in, longest_in}
+
+-- pages that, one after the other, have the rows and the steps of the whole plan; each suspended plan among them is short
+pub record AreWhole (D : List Triple) (plan : Plan) (pages : List Page) : Type 0 where
+  pub rows : rows_in pages ≡ rows_of (trace D plan)
+  pub count : length pages ≤ steps D plan
+  pub steps_all : steps_in pages ≡ steps D plan
+  pub short : longest_in pages ≤ 65 + 14 * nodes plan
+
+-- pages of at least one step, followed to the end, are the whole
+abbrev pub PagesJoin : Type 0
+PagesJoin = (D : List Triple) (plan : Plan) (text : List ℕ) (quanta : ℕ → ℕ) (pages : List Page) →
+    ((k : ℕ) → 1 ≤ quanta k) → IsRun D plan text quanta 0 0 pages → AreWhole D plan pages
+
+-- one value and no other has the property
+pub record HasOne {X : Type 0} (P : X → Type 0) : Type 0 where
+  pub found : X
+  pub has : P found
+  pub alone : (other : X) → P other → other ≡ found
+
+-- for quanta of at least one step there is one run
+abbrev pub OneRun : Type 0
+OneRun = (D : List Triple) (plan : Plan) (text : List ℕ) (quanta : ℕ → ℕ) → ((k : ℕ) → 1 ≤ quanta k) → HasOne (λ pages. IsRun D plan text quanta 0 0 pages)
+
+-- there is one page for each place and quantum
+abbrev pub OnePage : Type 0
+OnePage = (D : List Triple) (plan : Plan) (text : List ℕ) (n quantum : ℕ) → HasOne (λ page. IsPage D plan text n quantum page)
+
+-- a page takes at least one step and at most its quantum, up to the end of the plan
+pub record TakesSteps (D : List Triple) (plan : Plan) (n quantum : ℕ) (page : Page) : Type 0 where
+  pub some : 1 ≤ page.steps
+  pub most : page.steps ≤ quantum
+  pub end : n + page.steps ≡ page_end D plan n quantum
+
+-- so does each page of at least one step that begins before the end
+abbrev pub PagesTakeSteps : Type 0
+PagesTakeSteps = (D : List Triple) (plan : Plan) (text : List ℕ) (n quantum : ℕ) (page : Page) → n < steps D plan → 1 ≤ quantum →
+    IsPage D plan text n quantum page → TakesSteps D plan n quantum page
+
+-- wherever entries are still to come one state stands
+abbrev pub OneState : Type 0
+OneState = (D : List Triple) (plan : Plan) (n : ℕ) → n < steps D plan → HasOne (λ state. Stands D plan state n)
+
+-- and one state, the last one among them, wherever a plan can be
+abbrev pub OneStateAt : Type 0
+OneStateAt = (D : List Triple) (plan : Plan) (n : ℕ) → n ≤ steps D plan → HasOne (λ state. StandsAt D plan state n)
+
+-- a state stands only where entries are still to come
+abbrev pub StatesAreBelow : Type 0
+StatesAreBelow = (D : List Triple) (plan : Plan) (state : State) (n : ℕ) → Stands D plan state n → n < steps D plan
+
+-- no state stands at two places
+abbrev pub OtherPlaces : Type 0
+OtherPlaces = (D : List Triple) (plan : Plan) (state : State) (m n : ℕ) → StandsAt D plan state m → StandsAt D plan state n → m ≡ n
+
+-- the rank of a term is its place in the list, and at its rank stands the term
+pub record PlacesAreRanks (D : List Triple) (ts : List Term) : Type 0 where
+  pub to : (k : ℕ) (t : Term) → slice_get ts k ≡ Some t → rank D t ≡ k
+  pub from : (t : Term) → In (terms_of D) t → slice_get ts (rank D t) ≡ Some t
+
+-- so it is in the sorted list of the data's terms
+abbrev pub RanksArePlaces : Type 0
+RanksArePlaces = (D : List Triple) (ts : List Term) → IsStrictlySortedBy term_cmp ts → HaveSame ts (terms_of D) → PlacesAreRanks D ts
+
+-- two terms of the data have two ranks, and two triples of the data have other numbers
+pub record RanksAreExact (D : List Triple) : Type 0 where
+  pub terms : (s t : Term) → In (terms_of D) s → In (terms_of D) t → rank D s ≡ rank D t → s ≡ t
+  pub triples : (s t : Triple) → In D s → In D t → ids_of D s ≡ ids_of D t → s ≡ t
+
+-- whatever the data
+abbrev pub RanksExact : Type 0
+RanksExact = (D : List Triple) → RanksAreExact D
+
+-- a suspended plan has at most 65 bytes, and 14 more for each part of the plan
+abbrev pub Bounded : Type 0
+Bounded = (D : List Triple) (plan : Plan) (text : List ℕ) (state : State) (n : ℕ) → Stands D plan state n → length (plan_bytes D text state) ≤ 65 + 14 * nodes plan
+
+-- each table of the plan has fewer rows than four bytes count
+abbrev pub HasFewRows : Plan → Type 0
+HasFewRows (rows_plan rows) = length rows < 2 ^ 32
+HasFewRows (join_plan left p) = HasFewRows left
+HasFewRows (project_plan inner names) = HasFewRows inner
+
+-- the numbers in states fit into four bytes
+pub record IsCountable (D : List Triple) (plan : Plan) : Type 0 where
+  pub rows : HasFewRows plan
+  pub terms : length (terms_of D) < 2 ^ 32
+
+-- no two states have the same bytes
+abbrev pub OneSpelling : Type 0
+OneSpelling = (D : List Triple) (plan : Plan) (text : List ℕ) (a b : State) (m n : ℕ) → IsCountable D plan →
+    Stands D plan a m → Stands D plan b n → plan_bytes D text a ≡ plan_bytes D text b → a ≡ b
+
+-- what follows a page says how many entries came before
+abbrev pub NextsArePlaced : Type 0
+NextsArePlaced = (D : List Triple) (plan : Plan) (text : List ℕ) (next : Option (List ℕ)) (m n : ℕ) → IsCountable D plan →
+    IsNext D plan text m next → IsNext D plan text n next → m ≡ n
+
+-- byte 2, 32 bytes that name the data, 32 bytes that name the text, and the state
+pub record HasParts (D : List Triple) (text : List ℕ) (state : State) (bytes : List ℕ) : Type 0 where
+  pub version : slice_get bytes 0 ≡ Some 2
+  pub data_name : take 32 (drop 1 bytes) ≡ data_id D
+  pub text_name : take 32 (drop 33 bytes) ≡ sha256 text
+  pub state_is : drop 65 bytes ≡ state_bytes state
+
+-- so has every suspended plan
+abbrev pub PartsAreFixed : Type 0
+PartsAreFixed = (D : List Triple) (text : List ℕ) (state : State) → HasParts D text state (plan_bytes D text state)
+
+-- bytes of other data or of another text differ, unless the digests are equal
+pub record NameAlike (D E : List Triple) (text other : List ℕ) (a b : State) : Type 0 where
+  pub same_data : data_id D ≡ data_id E
+  pub same_text : sha256 text ≡ sha256 other
+  pub same_state : state_bytes a ≡ state_bytes b
+
+-- whatever the states
+abbrev pub NamesAreTold : Type 0
+NamesAreTold = (D E : List Triple) (text other : List ℕ) (a b : State) → plan_bytes D text a ≡ plan_bytes E other b → NameAlike D E text other a b
+
+-- what holds of states and pages over one list of triples holds over the other
+pub record AreAlike (D E : List Triple) : Type 0 where
+  pub ranks : (t : Term) → rank D t ≡ rank E t
+  pub names : data_id D ≡ data_id E
+  pub states : (plan : Plan) (state : State) (n : ℕ) → Stands D plan state n → Stands E plan state n
+  pub pages : (plan : Plan) (text : List ℕ) (n quantum : ℕ) (page : Page) → IsPage D plan text n quantum page → IsPage E plan text n quantum page
+  pub runs : (plan : Plan) (text : List ℕ) (quanta : ℕ → ℕ) (pages : List Page) → IsRun D plan text quanta 0 0 pages → IsRun E plan text quanta 0 0 pages
+
+-- only which triples there are counts, not their order or repeats
+abbrev pub StatesOfSets : Type 0
+StatesOfSets = (D E : List Triple) → HaveSame D E → AreAlike D E

@@ -1,0 +1,81 @@
+-- Plans, and what the engine gives for each, step by step.
+use Rattle.std.specs.Prelude.{ℕ, List, [], ◌∷◌, ◌++◌, length, map, flat_map, Option, Some, None, Bool, true, cond, ◌&&◌, filter}
+use Rattle.std.specs.List.{filter_map}
+use Rattle.std.specs.FinMap as finmap
+use Rattle.term_core.specs.declared.term.Term.{Term}
+use Rattle.term_core.specs.declared.term.Triple.{Triple}
+use Rattle.term_core.specs.Mappings.{Name, Row, value, same_term, restricted}
+use Rattle.sparql_tree.specs.Bgp.{Position, Known, Named, Pattern, filled}
+use Rattle.plan_tree.specs.Index.{index_cmp, in_order}
+
+-- a plan: a table of rows, the join of a plan's rows with a pattern, or the restriction of a plan's rows to names
+pub data Plan : Type 0 where
+  rows_plan : (rows : List Row) → Plan
+  join_plan : (left : Plan) (p : Pattern) → Plan
+  project_plan : (inner : Plan) (names : List Name) → Plan
+
+-- whether a term may stand at a position: it is free, or has this term
+abbrev pub fits : Option Term → Term → Bool
+fits None term = true
+fits (Some other) term = same_term other term
+
+-- whether a triple agrees with a pattern's terms and with a row's values, each position by itself
+abbrev pub agrees : Pattern → Row → Triple → Bool
+agrees p row t = fits (filled row p.subject) t.subject && (fits (filled row p.predicate) t.predicate && fits (filled row p.object) t.object)
+
+-- the triples of the data that agree, in the order of the pattern's index
+abbrev pub range : List Triple → Pattern → Row → List Triple
+range D p row = filter (agrees p row) (in_order (index_cmp p row) D)
+
+-- a row with a name bound to a term, or nothing where the name has another value
+abbrev pub put : Row → Name → Term → Option Term → Option Row
+put row name term None = Some (finmap.insert row name term)
+put row name term (Some other) = cond (same_term other term) (Some row) None
+
+-- a row with the name at a position, if any, bound to a term
+abbrev pub bind_at : Position → Term → Option Row → Option Row
+bind_at (Known other) term row = row
+bind_at (Named name) term None = None
+bind_at (Named name) term (Some row) = put row name term (value row name)
+
+-- the entry of a triple: the row with the pattern's names bound, or nothing where one name would get two values
+abbrev pub extended : Pattern → Row → Triple → Option Row
+extended p row t = bind_at p.object t.object (bind_at p.predicate t.predicate (bind_at p.subject t.subject (Some row)))
+
+-- the rows that a pattern makes of one row
+abbrev pub made_of : List Triple → Pattern → Row → List Row
+made_of D p row = filter_map (extended p row) (range D p row)
+
+-- what a plan gives in each of its steps: a row or nothing
+abbrev pub Entries : Type 0
+Entries = List (Option Row)
+
+-- the entries that a row makes of triples that are still to come, and one at their end
+abbrev pub triple_entries : Pattern → Row → List Triple → Entries
+triple_entries p row ts = map (extended p row) ts ++ None ∷ []
+
+-- what a join makes of one entry of its left side
+abbrev pub join_entries : List Triple → Pattern → Option Row → Entries
+join_entries D p None = None ∷ []
+join_entries D p (Some row) = None ∷ triple_entries p row (range D p row)
+
+-- an entry whose row, if any, is changed
+abbrev pub changed : (Row → Row) → Option Row → Option Row
+changed f None = None
+changed f (Some row) = Some (f row)
+
+-- the entries of a plan over the data
+abbrev pub trace : List Triple → Plan → Entries
+trace D (rows_plan rows) = map Some rows ++ None ∷ []
+trace D (join_plan left p) = flat_map (join_entries D p) (trace D left)
+trace D (project_plan inner names) = map (changed (restricted names)) (trace D inner)
+
+-- how many steps a plan takes
+abbrev pub steps : List Triple → Plan → ℕ
+steps D plan = length (trace D plan)
+
+-- the rows among entries, in their order
+abbrev pub rows_of : Entries → List Row
+rows_of [] = []
+rows_of (None ∷ entries) = rows_of entries
+rows_of (Some row ∷ entries) = row ∷ rows_of entries

@@ -1,0 +1,10 @@
+pub mod Causes
+pub mod Shelf
+pub mod Sink
+pub mod Replies
+pub mod Link
+pub mod Conn
+pub mod Door
+pub mod Calls
+pub mod Memory
+pub mod Held

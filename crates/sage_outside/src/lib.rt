@@ -1,0 +1,24 @@
+//! What the program reaches outside, as traits with counts of faults, with forms in memory and over std.
+#![tactic(auto)]
+
+mod calls;
+mod conn;
+mod door;
+mod files_in_memory;
+mod link;
+mod memory;
+mod nothing;
+mod real;
+mod reply;
+mod shelf;
+mod sink;
+
+pub use conn::Conn;
+pub use door::Door;
+pub use link::{Link, LinkFault, Memory};
+pub use memory::{MemFile, MemShelf, MemSink};
+pub use nothing::{NeverSink, NoConn, NoDoor, NoLink};
+pub use real::{FileShelf, WriteSink};
+pub use reply::{tells_server_error, tells_unavailable};
+pub use shelf::{Shelf, ShelfFault};
+pub use sink::{Failed, Sink};

@@ -1,0 +1,4 @@
+pub mod Assignments
+pub mod Full
+pub mod Visible
+pub mod Data

@@ -1,0 +1,4 @@
+pub mod Bgp
+pub mod Algebra
+pub mod Answer
+pub mod Laws

@@ -1,0 +1,9 @@
+mod Puts
+mod Utf8
+pub mod Bags
+pub mod Merges
+pub mod Joined
+pub mod Entries
+pub mod Distinct
+pub mod Permuted
+pub mod IdOrder

@@ -1,0 +1,18 @@
+-- A row is a finite map from names to terms (SPARQL 1.1, section 18.1.8), kept as entries in the byte order of the names.
+use Rattle.std.specs.Prelude.{◌≡◌, ℕ, ◌<◌, ◌≤◌, List, length, slice_set, Result, Ok, Err, insert, T}
+use Rattle.std.specs.FinMap.{put, is_sorted}
+use Rattle.term_core.specs.declared.term.Term.{Term}
+use Rattle.term_core.specs.Order.{bytes_cmp}
+
+-- names, each with its term
+abbrev pub Entries : Type 0
+Entries = List (List ℕ × Term)
+
+-- in the order of the names, each of which stands once
+abbrev pub AreSorted : Entries → Type 0
+AreSorted es = T (is_sorted bytes_cmp es)
+
+-- a place where the name stands, so that setting it there puts it; or one where it goes in, if it stands nowhere
+abbrev pub IsPlace : Result ℕ ℕ → Entries → List ℕ → Type 0
+IsPlace (Ok at) es name = (at < length es) × ((v : Term) → put bytes_cmp name v es ≡ slice_set es at (name, v))
+IsPlace (Err at) es name = (at ≤ length es) × ((v : Term) → put bytes_cmp name v es ≡ insert es at (name, v))

@@ -1,0 +1,23 @@
+//! RDF terms, triples, triple patterns and solution rows, with one total order on terms.
+#![tactic(auto)]
+
+mod copies;
+mod items;
+mod law;
+mod pattern;
+mod row;
+mod term;
+#[cfg(test)]
+mod tests;
+mod text;
+
+pub use copies::TryCopy;
+pub use items::Items;
+pub use law::{
+    bags_are_rearrangements, bytes_order_is_total, distinct_keeps_each_once, equality_is_exact,
+    id_order_is_total, joins_are_bags, merge_is_union, restriction_keeps_values,
+};
+pub use pattern::{IdTriple, Pattern, Place};
+pub use row::Row;
+pub use term::{NotATriple, Term, Triple, check_triple, compare, compare_is_total, size};
+pub use text::{Memory, Text, TextFault};

@@ -1,0 +1,188 @@
+//! RDF terms and triples, and the order on terms.
+
+ghost use Rattle.std.specs.Prelude.{◌≡◌, ◌^◌, ◌-◌, min, MatchResult, IfOk};
+ghost use Rattle.std.specs.Cmp.{IsTotalOrder};
+ghost use Rattle.term_core.specs.Order.{rank_of, size_of, term_cmp, IsAllowed};
+
+use crate::{Memory, Text};
+use std::alloc::Global;
+use std::cmp::Ordering;
+
+/// An RDF term (RDF 1.1 Concepts, section 3.1).
+#[derive(Debug, Drop)]
+pub enum Term {
+    /// An IRI (section 3.2), without its angle brackets.
+    Iri(Text),
+    /// A blank node (section 3.4), by its label without `_:`.
+    Blank(Text),
+    /// A literal (section 3.3). The language tag `lang` is empty where there is none.
+    Literal {
+        lexical: Text,
+        datatype: Text,
+        lang: Text,
+    },
+}
+
+/// A subject, a predicate and an object. Whether they make an RDF triple (RDF 1.1 Concepts,
+/// section 3.1) is what `check_triple` tells.
+#[derive(Debug, Drop)]
+pub struct Triple {
+    pub subject: Term,
+    pub predicate: Term,
+    pub object: Term,
+}
+
+/// The subject is a literal, or the predicate is no IRI.
+#[derive(Clone, Copy, Debug, PartialEq, Eq)]
+pub struct NotATriple;
+
+impl Term {
+    /// An equal term with room of its own.
+    pub fn copy(&self, alloc: Global) -> Result<Term, Memory>
+        ensures { IfOk result (λ t. t ≡ self.now) }
+    {
+        match self {
+            Term::Iri(text) => Ok(Term::Iri(text.copy(alloc)?)),
+            Term::Blank(text) => Ok(Term::Blank(text.copy(alloc)?)),
+            Term::Literal {
+                lexical,
+                datatype,
+                lang,
+            } => Ok(Term::Literal {
+                lexical: lexical.copy(alloc)?,
+                datatype: datatype.copy(alloc)?,
+                lang: lang.copy(alloc)?,
+            }),
+        }
+    }
+}
+
+/// The bytes of the IRI or label, or of lexical form, datatype and tag together. The sum stops at
+/// the greatest `usize`.
+pub fn size(term: &Term) -> usize
+    ensures { result ≡ min (size_of term.now) (2 ^ 64 - 1) }
+{
+    match term {
+        Term::Iri(text) => text.bytes().len(),
+        Term::Blank(text) => text.bytes().len(),
+        Term::Literal {
+            lexical,
+            datatype,
+            lang,
+        } => {
+            let tagged = datatype.bytes().len().saturating_add(lang.bytes().len());
+            lexical.bytes().len().saturating_add(tagged)
+        }
+    }
+}
+
+/// Whether a triple is one of RDF (RDF 1.1 Concepts, section 3.1): refused exactly where the
+/// subject is a literal or the predicate is no IRI.
+pub fn check_triple(t: &Triple) -> Result<(), NotATriple>
+    ensures { MatchResult result (λ _. IsAllowed t.now) (λ _. ¬ IsAllowed t.now) }
+{
+    match (&t.subject, &t.predicate) {
+        (Term::Literal { .. }, _) => Err(NotATriple),
+        (_, Term::Iri(_)) => Ok(()),
+        _ => Err(NotATriple),
+    }
+}
+
+fn rank(term: &Term) -> u8
+    ensures { result ≡ rank_of term.now }
+{
+    match term {
+        Term::Blank(_) => 0,
+        Term::Iri(_) => 1,
+        Term::Literal { .. } => 2,
+    }
+}
+
+/// The order on terms: blank nodes by label, then IRIs, then literals by lexical form, datatype and
+/// tag, each by bytes. It refines the order of kinds in SPARQL 1.1, section 15.1.
+pub fn compare(a: &Term, b: &Term) -> Ordering
+    ensures { result ≡ term_cmp a.now b.now }
+{
+    match (a, b) {
+        (Term::Iri(a), Term::Iri(b)) => a.bytes().cmp(b.bytes()),
+        (Term::Blank(a), Term::Blank(b)) => a.bytes().cmp(b.bytes()),
+        (
+            Term::Literal {
+                lexical,
+                datatype,
+                lang,
+            },
+            Term::Literal {
+                lexical: lexical_b,
+                datatype: datatype_b,
+                lang: lang_b,
+            },
+        ) => lexical
+            .bytes()
+            .cmp(lexical_b.bytes())
+            .then(datatype.bytes().cmp(datatype_b.bytes()))
+            .then(lang.bytes().cmp(lang_b.bytes())),
+        _ => rank(a).cmp(&rank(b)),
+    }
+}
+
+/// `compare` is a total order, and equal terms alone tie.
+pub fn compare_is_total()
+    ensures total { IsTotalOrder term_cmp }
+    ensures exact { (a b : Term) → term_cmp a b ≡ Ordering.Equal → a ≡ b }
+{}
+
+impl PartialEq for Term {
+    ghost use Rattle.std.specs.Ordering.{eq_by_cmp};
+    ghost use Rattle.std.specs.Cmp.{partial_equiv_from_equiv, eq_by_cmp_equiv};
+    ghost use Rattle.term_core.specs.Order.{term_cmp};
+    ghost use Rattle.term_core.specs.OrderLaws.{terms_total};
+
+    ghost eq = { eq_by_cmp term_cmp };
+
+    ghost laws = { partial_equiv_from_equiv (eq_by_cmp_equiv terms_total) };
+
+    fn eq(&self, other: &Term) -> bool {
+        compare(self, other).is_eq()
+    }
+}
+
+impl Eq for Term {
+    ghost use Rattle.std.specs.Cmp.{eq_by_cmp_equiv};
+    ghost use Rattle.term_core.specs.OrderLaws.{terms_total};
+
+    ghost laws = { eq_by_cmp_equiv terms_total };
+}
+
+impl PartialOrd for Term {
+    ghost use Rattle.std.specs.Ordering.{as_partial_cmp};
+    ghost use Rattle.std.specs.Cmp.{partial_order_from_total};
+    ghost use Rattle.term_core.specs.Order.{term_cmp};
+    ghost use Rattle.term_core.specs.OrderLaws.{terms_total};
+
+    ghost partial_cmp = { as_partial_cmp term_cmp };
+
+    ghost laws = { partial_order_from_total terms_total };
+
+    fn partial_cmp(&self, other: &Term) -> Option<Ordering> {
+        Some(compare(self, other))
+    }
+}
+
+impl Ord for Term {
+    ghost use Rattle.std.specs.Prelude.{refl};
+    ghost use Rattle.term_core.specs.Order.{term_cmp};
+    ghost use Rattle.term_core.specs.OrderLaws.{terms_total};
+
+    ghost cmp = { term_cmp };
+
+    ghost total = { terms_total };
+
+    ghost matches_partial_cmp = { λ x y. refl };
+
+    ghost matches_eq = { λ x y. refl };
+
+    fn cmp(&self, other: &Term) -> Ordering {
+        compare(self, other)
+    }
+}
