@@ -76,9 +76,11 @@ impl Link for NoLink {
     }
 }
 
-/// The connection of a door at which nobody connects. It has no value.
+/// The connection of a door at which nobody connects. No call makes one: its calls fail.
 #[derive(Debug, Drop)]
-pub enum NoConn {}
+pub struct NoConn {
+    faults: u64,
+}
 
 impl Conn for NoConn {
     ghost coming = { λ _. None };
@@ -87,24 +89,25 @@ impl Conn for NoConn {
 
     ghost wrote = { λ _. None };
 
-    ghost faults = { λ _. 0 };
+    ghost faults = { λ conn. conn.faults };
 
     fn take(&mut self, buf: &mut [u8]) -> Result<usize, Failed> {
-        match *self {}
+        self.faults = self.faults.saturating_add(1);
+        Err(Failed)
     }
 
     fn put(&mut self, piece: &[u8]) -> Result<(), Failed> {
-        match *self {}
+        self.faults = self.faults.saturating_add(1);
+        Err(Failed)
     }
 
-    fn end(&mut self) {
-        match *self {}
-    }
+    fn end(&mut self) {}
 }
 
 /// A door at which nobody connects: each call that can fail does. It tells nothing but its counts.
 #[derive(Debug, Drop)]
 pub struct NoDoor {
+    out: u64,
     faults: u64,
 }
 
@@ -114,12 +117,13 @@ impl NoDoor {
         ensures out { ⟦<NoDoor as Door>⟧.out result ≡ 0 }
         ensures faults { ⟦<NoDoor as Door>⟧.faults result ≡ 0 }
     {
-        NoDoor { faults: 0 }
+        NoDoor { out: 0, faults: 0 }
     }
 
     fn fault(&mut self)
         ensures later { self.old.faults ≤ self.new.faults }
         ensures rose { Rose self.old.faults self.new.faults }
+        ensures same { self.new.out ≡ self.old.out }
     {
         self.faults = self.faults.saturating_add(1);
     }
@@ -128,7 +132,7 @@ impl NoDoor {
 impl Door for NoDoor {
     type C = NoConn;
 
-    ghost out = { λ _. 0 };
+    ghost out = { λ door. door.out };
 
     ghost coming = { λ _. None };
 
@@ -139,6 +143,7 @@ impl Door for NoDoor {
     fn listen(&mut self, host: &str, port: u16) -> Result<(), Failed>
         ensures fails { IsErr result }
         ensures cause { HasFaultCause self.old.faults self.new.faults result }
+        ensures same { self.new.out ≡ self.old.out }
     {
         self.fault();
         Err(Failed)
@@ -147,13 +152,15 @@ impl Door for NoDoor {
     fn next_conn(&mut self) -> Result<NoConn, Failed>
         ensures fails { IsErr result }
         ensures cause { HasFaultCause self.old.faults self.new.faults result }
+        ensures same { self.new.out ≡ self.old.out }
     {
         self.fault();
         Err(Failed)
     }
 
     fn give_back(&mut self, conn: NoConn) {
-        match conn {}
+        let NoConn { .. } = conn;
+        self.out = self.out.saturating_sub(1);
     }
 }
 
