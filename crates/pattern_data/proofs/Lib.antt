@@ -1,0 +1,6 @@
+pub mod TableLists
+pub mod TableSlots
+pub mod TableOrder
+pub mod TableFound
+pub mod TableRange
+pub mod TableRanks

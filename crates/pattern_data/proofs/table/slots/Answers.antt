@@ -1,0 +1,28 @@
+use Rattle.std.proofs.Common.{◌≡◌, ℕ, ◌+◌, List, [], ◌∷◌, ◌++◌, map, drop, ap, ◌∙◌, arith}
+use Rattle.std.specs.Prelude.{flat_map}
+use Rattle.std.proofs.lemmas.List.{map-append}
+use Rattle.term_core.specs.declared.term.Term.{Term}
+use Rattle.sparql_tree.specs.Bgp.{parts}
+use Rattle.pattern_data.specs.declared.table.Slot.{Slot}
+use Rattle.pattern_data.specs.Table.{numbered}
+use Rattle.pattern_data.proofs.TableSlots.{slots_more}
+use Rattle.pattern_data.proofs.table.slots.Goals as goal
+
+abbrev seen : Slot → Term × ℕ
+seen slot = (slot.term.now, slot.place)
+
+pushed : (xs ys : List Slot) (slot : Slot) → ys ≡ xs ++ slot ∷ [] → map seen ys ≡ map seen xs ++ seen slot ∷ []
+pushed xs ys slot e = ap (map seen) e ∙ map-append seen xs (slot ∷ [])
+
+pub loop-triple-preserved : goal.loop-triple-preserved
+loop-triple-preserved c =
+    let first = pushed _ _ _ c.in_ok-push.ensures.items in
+    let second = pushed _ _ _ c.in_ok-push-2.ensures.items in
+    let third = pushed _ _ _ c.in_ok-push-3.ensures.items in
+    let t = c.triple-item.result in
+    let place = c.loop-triple.place in
+    let all = third ∙ ap (λ w. w ++ (t.object, place + 2) ∷ []) (second ∙ ap (λ w. w ++ (t.predicate, place + 1) ∷ []) first) in (
+      omega arith,
+      ap (λ w. w ++ numbered (place + 3) (flat_map parts (drop (c.loop-triple.triple-index + 1) c.args.document.now))) all
+          ∙ slots_more c.args.document.now c.loop-triple.triple-index place t (map seen c.loop-triple.slots.items) _ c.loop-triple-test.true c.triple-item.is c.loop-triple.invariant.1,
+    )

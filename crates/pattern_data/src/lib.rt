@@ -1,0 +1,14 @@
+//! The data in memory: a dictionary of terms, triples by the numbers of their terms, and the triples of a pattern.
+#![tactic(auto)]
+
+mod range;
+mod table;
+mod table_id;
+#[cfg(test)]
+mod table_tests;
+mod term_text;
+
+pub use range::{Range, range_of};
+pub use table::Table;
+pub use table_id::data_id;
+pub use term_text::{push_line, push_term, push_triple};

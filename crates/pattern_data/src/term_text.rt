@@ -1,0 +1,130 @@
+//! Terms and triples written as text (RDF 1.1 N-Triples, section 2).
+
+ghost use Rattle.std.specs.Prelude.{◌≡◌, ◌++◌, [], flat_map, OnOk};
+ghost use Rattle.std.specs.Str.{bytes_eq};
+ghost use Rattle.term_core.specs.Texts.{escaped, xsd_string, kind_text, term_text, triple_text};
+
+use term_core::{Memory, Term, Text, Triple};
+
+/// The datatype of plain strings (XML Schema 1.1 Datatypes, section 3.3.1), which text leaves out.
+const XSD_STRING: &str = "http://www.w3.org/2001/XMLSchema#string";
+
+/// One byte of a string, escaped where it must be (N-Triples, ECHAR).
+fn push_byte(out: &mut Vec<u8>, byte: u8) -> Result<(), Memory>
+    ensures { OnOk result (out.new.items ≡ out.old.items ++ escaped byte) }
+{
+    if byte == b'\\' {
+        out.extend_from_slice(b"\\\\")?;
+    } else if byte == b'"' {
+        out.extend_from_slice(b"\\\"")?;
+    } else if byte == b'\n' {
+        out.extend_from_slice(b"\\n")?;
+    } else if byte == b'\r' {
+        out.extend_from_slice(b"\\r")?;
+    } else {
+        out.push(byte)?;
+    }
+    Ok(())
+}
+
+/// The lexical form of a literal, escaped (N-Triples, STRING_LITERAL_QUOTE), without its quotes.
+fn push_lexical(out: &mut Vec<u8>, lexical: &[u8]) -> Result<(), Memory>
+    ensures { OnOk result (out.new.items ≡ out.old.items ++ flat_map escaped lexical.now) }
+{
+    for byte in lexical {
+        push_byte(out, *byte)?;
+    }
+    Ok(())
+}
+
+/// Whether a datatype is the one of plain strings.
+fn is_plain(datatype: &Text) -> bool
+    ensures { result ≡ bytes_eq datatype.now xsd_string }
+{
+    datatype.as_str() == XSD_STRING
+}
+
+/// A datatype behind a literal's closing quote.
+fn push_datatype(out: &mut Vec<u8>, datatype: &Text) -> Result<(), Memory>
+    ensures { OnOk result (out.new.items ≡ out.old.items ++ kind_text datatype.now []) }
+{
+    if is_plain(datatype) {
+        return Ok(());
+    }
+    out.extend_from_slice(b"^^<")?;
+    out.extend_from_slice(datatype.bytes())?;
+    out.push(b'>')?;
+    Ok(())
+}
+
+/// What stands behind a literal's closing quote: its language tag, or else its datatype, unless
+/// that is the one of plain strings.
+fn push_kind(out: &mut Vec<u8>, datatype: &Text, lang: &Text) -> Result<(), Memory>
+    ensures { OnOk result (out.new.items ≡ out.old.items ++ kind_text datatype.now lang.now) }
+{
+    match lang.bytes() {
+        [] => push_datatype(out, datatype),
+        [first, rest @ ..] => {
+            out.push(b'@')?;
+            out.push(*first)?;
+            out.extend_from_slice(rest)?;
+            Ok(())
+        }
+    }
+}
+
+/// Appends a term's text: `<IRI>`, `_:label`, or `"lexical form"` with `@tag` or `^^<datatype>`. Of
+/// the bytes that N-Triples lets be escaped, only `\`, `"`, line feed and carriage return are. After
+/// an `Err` a part of the text may stand at the end of `out`.
+pub fn push_term(out: &mut Vec<u8>, term: &Term) -> Result<(), Memory>
+    ensures { OnOk result (out.new.items ≡ out.old.items ++ term_text term.now) }
+{
+    match term {
+        Term::Iri(iri) => {
+            out.push(b'<')?;
+            out.extend_from_slice(iri.bytes())?;
+            out.push(b'>')?;
+        }
+        Term::Blank(label) => {
+            out.extend_from_slice(b"_:")?;
+            out.extend_from_slice(label.bytes())?;
+        }
+        Term::Literal {
+            lexical,
+            datatype,
+            lang,
+        } => {
+            out.push(b'"')?;
+            push_lexical(out, lexical.bytes())?;
+            out.push(b'"')?;
+            push_kind(out, datatype, lang)?;
+        }
+    }
+    Ok(())
+}
+
+/// Appends the line of a triple: its three terms with a blank between, a blank, a dot and a line
+/// feed. After an `Err` a part of the line may stand at the end of `out`.
+pub fn push_line(
+    out: &mut Vec<u8>,
+    subject: &Term,
+    predicate: &Term,
+    object: &Term,
+) -> Result<(), Memory>
+    ensures { OnOk result (out.new.items ≡ out.old.items ++ triple_text (record { subject = subject.now; predicate = predicate.now; object = object.now })) }
+{
+    push_term(out, subject)?;
+    out.push(b' ')?;
+    push_term(out, predicate)?;
+    out.push(b' ')?;
+    push_term(out, object)?;
+    out.extend_from_slice(b" .\n")?;
+    Ok(())
+}
+
+/// Appends a triple's line, as `push_line` does.
+pub fn push_triple(out: &mut Vec<u8>, triple: &Triple) -> Result<(), Memory>
+    ensures { OnOk result (out.new.items ≡ out.old.items ++ triple_text triple.now) }
+{
+    push_line(out, &triple.subject, &triple.predicate, &triple.object)
+}

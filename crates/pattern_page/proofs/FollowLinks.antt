@@ -1,0 +1,64 @@
+-- Pages one after the other.
+use Rattle.std.proofs.Common.{◌≡◌, ℕ, ◌+◌, ◌<◌, ◌≤◌, List, [], ◌∷◌, length, Option, Some, None, Ok, refl, sym, subst, arith}
+use Rattle.std.proofs.lemmas.List.{length-map}
+use Rattle.term_core.specs.declared.term.Triple.{Triple}
+use Rattle.term_core.specs.declared.pattern.Pattern.{Pattern}
+use Rattle.term_core.specs.Order.{term_cmp}
+use Rattle.term_core.specs.OrderLaws.{terms_total}
+use Rattle.term_core.specs.Bags.{total, SameBag}
+use Rattle.term_core.proofs.Bags.{same_members}
+use Rattle.sparql_tree.specs.Bgp.{terms_of}
+use Rattle.plan_tree.specs.Trace.{steps}
+use Rattle.plan_tree.specs.Pages.{Page, IsPage}
+use Rattle.plan_tree.specs.StateLaws.{IsCountable}
+use Rattle.plan_tree.proofs.Orders.{AreDistinct-ordered}
+use Rattle.plan_tree.proofs.Ranked.{terms_distinct}
+use Rattle.plan_tree.proofs.Standing.{stands_below}
+use Rattle.plan_tree.proofs.Spelled.{next_placed}
+use Rattle.pattern_data.specs.declared.range.Range.{Range}
+use Rattle.pattern_page.specs.declared.page.Part.{Part}
+use Rattle.pattern_page.specs.declared.page.Page as code_page
+use Rattle.pattern_data.specs.Table.{terms_in}
+use Rattle.pattern_data.specs.Range.{triples_in, ids_of_key, index_at}
+use Rattle.pattern_page.specs.Part.{part_text, part_plan}
+use Rattle.pattern_page.specs.PagesOf.{IsPart, page_of, Answers}
+use Rattle.pattern_page.specs.Followed.{Begins}
+use Rattle.pattern_page.proofs.PageLinks.{terms_alike, steps_are}
+
+total_ones : {X : Type 0} (xs : List X) → total (λ _. 1) xs ≡ length xs
+total_ones [] = refl
+total_ones (x ∷ xs) = omega (arith, total_ones xs)
+
+range_small : (range : Range) → length (triples_in range) + 3 < 18446744073709551616
+range_small range = omega (arith, length-map range.keys.items (ids_of_key (index_at range)), range.keys.small, range.keys.ok.0, range.keys.ok.1)
+
+module _ (D : List Triple) (pattern : Pattern) (part : Part) (h : IsPart D pattern part) where
+  few_terms : length (terms_of D) ≤ 12582909
+  few_terms =
+      let ts = terms_in part.table.now in
+      let same = terms_alike D pattern part h in
+      let bags : SameBag (terms_of D) ts = same_members (terms_of D) ts (terms_distinct D) (AreDistinct-ordered term_cmp terms_total ts h.table_is.rising) same.from same.to in
+      omega (arith, bags.by (λ _. 1), total_ones (terms_of D), total_ones ts, h.table_is.few)
+
+  countable : IsCountable D (part_plan pattern)
+  countable = record { rows = omega arith; terms = omega (arith, few_terms) }
+
+  -- where a page begins entries are still to come
+  pub begins_below : (n : ℕ) (next : Option (List ℕ)) → Begins D pattern n next → n < steps D (part_plan pattern)
+  begins_below n None b = omega (arith, b, steps_are D pattern part h)
+  begins_below n (Some bytes) b = stands_below D (part_plan pattern) b.0 n b.1
+
+  -- the page of the bytes is the page of the place
+  pub turned : (n quantum : ℕ) (next : Option (List ℕ)) (page : code_page.Page) → Begins D pattern n next → Answers D pattern next quantum (Ok page)
+      → IsPage D (part_plan pattern) (part_text pattern) n quantum (page_of page)
+  turned n quantum None page b a = subst (λ m. IsPage D (part_plan pattern) (part_text pattern) m quantum (page_of page)) (sym b) a
+  turned n quantum (Some bytes) page b a =
+      let same : a.entry ≡ n = next_placed D (part_plan pattern) (part_text pattern) (Some bytes) a.entry n countable (a.state, a.stands, a.bytes_are) b in
+      subst (λ m. IsPage D (part_plan pattern) (part_text pattern) m quantum (page_of page)) same a.page_is
+
+  -- the counts fit
+  pub pages_fit : (n pages : ℕ) (next : Option (List ℕ)) → Begins D pattern n next → pages ≤ n → pages < 18446744073709551615
+  pages_fit n pages next b l = omega (arith, begins_below n next b, steps_are D pattern part h, range_small part.range, l)
+
+  pub steps_fit : (n quantum : ℕ) (next : Option (List ℕ)) (page : Page) → Begins D pattern n next → IsPage D (part_plan pattern) (part_text pattern) n quantum page → n + page.steps < 18446744073709551616
+  steps_fit n quantum next page b is = omega (arith, begins_below n next b, is.steps_are, steps_are D pattern part h, range_small part.range)

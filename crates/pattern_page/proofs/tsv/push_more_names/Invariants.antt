@@ -1,0 +1,6 @@
+use Rattle.std.proofs.Common.{◌≡◌, ◌++◌, ◌∷◌, take}
+use Rattle.std.specs.Prelude.{flat_map}
+use Rattle.pattern_page.proofs.tsv.push_more_names.Given as goal
+
+abbrev pub invariant-loop-name : goal.invariant-loop-name
+invariant-loop-name l = l.out.items ≡ l.initial.out.items ++ flat_map (λ name. 9 ∷ 63 ∷ name) (take l.name-index l.names)

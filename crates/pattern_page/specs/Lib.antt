@@ -1,0 +1,5 @@
+pub mod Part
+pub mod Results
+pub mod StateReading
+pub mod PagesOf
+pub mod Followed

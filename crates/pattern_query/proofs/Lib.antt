@@ -1,0 +1,5 @@
+pub mod QueryNames
+pub mod QueryTokens
+pub mod QueryLaws
+pub mod QueryVariables
+pub mod QueryReads

@@ -1,0 +1,10 @@
+use Rattle.std.proofs.Common.{◌≡◌, ◌++◌, take, drop}
+use Rattle.nt_text.specs.Characters.{front, after}
+use Rattle.pattern_query.specs.Query.{is_in}
+use Rattle.pattern_query.proofs.query_text.span.Given as goal
+
+abbrev pub invariant-loop-i : goal.invariant-loop-i
+invariant-loop-i l = record {
+  front : front (is_in l.class) l.bytes ≡ take l.i l.bytes ++ front (is_in l.class) (drop l.i l.bytes);
+  after : after (is_in l.class) l.bytes ≡ after (is_in l.class) (drop l.i l.bytes);
+}

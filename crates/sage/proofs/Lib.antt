@@ -1,0 +1,5 @@
+pub mod Fronts
+pub mod Limits
+pub mod Ended
+pub mod Exact
+pub mod Answering

@@ -1,0 +1,52 @@
+-- A file read to one byte past a limit is as good as the whole file to a reader that refuses what is past the limit.
+use Rattle.std.proofs.Common.{◌≡◌, ◌≤◌, ℕ, ◌+◌, List, length, take, min, sym, ap, ◌∙◌, subst, arith}
+use Rattle.std.proofs.Math.Seq.{take-length}
+use Rattle.std.proofs.lemmas.List.{take_min, length-take}
+use Rattle.term_core.specs.declared.term.Triple.{Triple}
+use Rattle.term_core.specs.declared.pattern.Pattern.{Pattern}
+use Rattle.term_core.specs.Mappings.{Name}
+use Rattle.sage.specs.Data.{IsData}
+use Rattle.pattern_query.specs.Query.{IsQuery}
+use Rattle.sage.specs.Outcome.{Answers, NoData, NoQuery}
+
+within : (n : ℕ) (file : List ℕ) → length file ≤ n → take n file ≡ file
+within n file short =
+    let all : min n (length file) ≡ length file = omega (arith, short) in
+    sym (take_min n file) ∙ ap (λ k. take k file) all ∙ take-length file
+
+kept : (n : ℕ) (file : List ℕ) → length (take (n + 1) file) ≤ n → take (n + 1) file ≡ file
+kept n file short = within (n + 1) file (omega (arith, short, length-take (n + 1) file))
+
+kept_whole : (n : ℕ) (file : List ℕ) → length file ≤ n → take (n + 1) file ≡ file
+kept_whole n file short = within (n + 1) file (omega (arith, short))
+
+data_back : (file : List ℕ) (triples : List Triple) → IsData (take 268435457 file) triples → IsData file triples
+data_back file triples h = subst (λ bytes. IsData bytes triples) (kept 268435456 file h.limits.bytes_fit) h
+
+data_on : (file : List ℕ) (triples : List Triple) → IsData file triples → IsData (take 268435457 file) triples
+data_on file triples h = subst (λ bytes. IsData bytes triples) (sym (kept_whole 268435456 file h.limits.bytes_fit)) h
+
+query_back : (text : List ℕ) (names : List Name) (pattern : Pattern) → IsQuery (take 262145 text) names pattern → IsQuery text names pattern
+query_back text names pattern h = subst (λ bytes. IsQuery bytes names pattern) (kept 262144 text h.short) h
+
+query_on : (text : List ℕ) (names : List Name) (pattern : Pattern) → IsQuery text names pattern → IsQuery (take 262145 text) names pattern
+query_on text names pattern h = subst (λ bytes. IsQuery bytes names pattern) (sym (kept_whole 262144 text h.short)) h
+
+pub answers_back : (document query : List ℕ) (quantum : ℕ) (out err : List ℕ) → Answers (take 268435457 document) (take 262145 query) quantum out err → Answers document query quantum out err
+answers_back document query quantum out err h = record {
+  triples = h.triples;
+  is_data = data_back document h.triples h.is_data;
+  names = h.names;
+  pattern = h.pattern;
+  is_query = query_back query h.names h.pattern h.is_query;
+  over = h.over;
+}
+
+pub no_data_back : (document : List ℕ) → NoData (take 268435457 document) → NoData document
+no_data_back document none triples h = none triples (data_on document triples h)
+
+pub some_data_back : (document : List ℕ) → (triples : List Triple) × IsData (take 268435457 document) triples → (triples : List Triple) × IsData document triples
+some_data_back document some = (some.0, data_back document some.0 some.1)
+
+pub no_query_back : (query : List ℕ) → NoQuery (take 262145 query) → NoQuery query
+no_query_back query none names pattern h = none names pattern (query_on query names pattern h)

@@ -1,0 +1,195 @@
+// The top call.
+ghost use Rattle.std.specs.Prelude.{◌≡◌, ◌↔◌, ◌⊎◌, ◌≤◌, None, IfOk};
+ghost use Rattle.sage_outside.specs.Shelf.{Lacks};
+ghost use Rattle.sage.specs.Words.{command_of, HasQuantum};
+ghost use Rattle.sage.specs.Outcome.{IsTold, IsTryDone, WhyTryFile, WhyTryData, WhyTryQuery, WhyTryOutput, RefusesData, RefusesQuery, IsComplete, OfCommand, UnderCommand, message_of, file_message as message_of_file};
+
+use crate::answer::Refusal;
+use crate::words::{Command, WordsFault, read_words};
+use crate::work::try_query;
+use sage_outside::{Door, Link, Shelf, Sink};
+use std::alloc::Global;
+use term_core::{Memory, Text};
+
+/// Tells the errors a message. A failure of theirs changes nothing else.
+#[tactic(auto, using(crate::proofs::Ended::told))]
+fn say<E: Sink>(err: &mut E, message: &[u8])
+    ensures { IsTold (E.written err.old) (E.written err.new) message.now (E.faults err.old) (E.faults err.new) }
+{
+    let _ = err.put(message);
+}
+
+/// Tells the message of a status, and answers the status.
+fn refuse<E: Sink>(err: &mut E, message: &[u8], status: u8) -> u8
+    requires { message.now ≡ message_of status }
+    ensures status { result ≡ status }
+    ensures message { IsTold (E.written err.old) (E.written err.new) (message_of result) (E.faults err.old) (E.faults err.new) }
+{
+    say(err, message);
+    status
+}
+
+fn file_message(alloc: Global, name: &Text) -> Result<Vec<u8>, Memory>
+    ensures { IfOk result (λ message. message.items ≡ message_of_file name.now) }
+{
+    let mut message = Vec::from_slice(alloc, b"sage: file ")?;
+    message.extend_from_slice(name.bytes())?;
+    message.push(b'\n')?;
+    Ok(message)
+}
+
+fn refuse_file<E: Sink>(alloc: Global, err: &mut E, name: &Text) -> u8
+    ensures statuses { (result ≡ 3) ⊎ (result ≡ 1) }
+    ensures file { result ≡ 3 → IsTold (E.written err.old) (E.written err.new) (message_of_file name.now) (E.faults err.old) (E.faults err.new) }
+    ensures memory { result ≡ 1 → IsTold (E.written err.old) (E.written err.new) (message_of 1) (E.faults err.old) (E.faults err.new) }
+{
+    match file_message(alloc, name) {
+        Ok(message) => {
+            say(err, &message);
+            3
+        }
+        Err(_) => refuse(err, b"sage: memory\n", 1),
+    }
+}
+
+/// Runs `try` over the files of these names, and answers the status with its cause.
+fn end_try<S: Shelf, O: Sink, E: Sink>(
+    alloc: Global,
+    shelf: &mut S,
+    out: &mut O,
+    err: &mut E,
+    document: &Text,
+    query: &Text,
+    quantum: u32,
+) -> u8
+    requires { 1 ≤ quantum }
+    ensures same { S.files shelf.new ≡ S.files shelf.old }
+    ensures done { result ≡ 0 → IsTryDone document.now query.now quantum (S.files shelf.old) (O.written out.old) (O.written out.new) (E.written err.old) (E.written err.new) (E.faults err.old) (E.faults err.new) }
+    ensures file { result ≡ 3 → WhyTryFile document.now query.now (S.files shelf.old) (S.faults shelf.old) (S.faults shelf.new) (E.written err.old) (E.written err.new) (E.faults err.old) (E.faults err.new) }
+    ensures no_data { result ≡ 4 → WhyTryData document.now query.now (S.files shelf.old) }
+    ensures no_query { result ≡ 6 → WhyTryQuery document.now query.now (S.files shelf.old) }
+    ensures output { result ≡ 9 → WhyTryOutput document.now query.now quantum (S.files shelf.old) (O.written out.old) (O.written out.new) (O.faults out.old) (O.faults out.new) }
+    ensures there { Lacks (S.files shelf.old) document.now ⊎ Lacks (S.files shelf.old) query.now → (result ≡ 3) ⊎ (result ≡ 1) }
+    ensures statuses { (result ≡ 0) ⊎ (result ≡ 1) ⊎ (result ≡ 3) ⊎ (result ≡ 4) ⊎ (result ≡ 6) ⊎ (result ≡ 9) }
+    ensures unwritten { (result ≡ 0 → ⊥) → (result ≡ 9 → ⊥) → O.written out.new ≡ O.written out.old }
+    ensures message { (result ≡ 0 → ⊥) → (result ≡ 3 → ⊥) → IsTold (E.written err.old) (E.written err.new) (message_of result) (E.faults err.old) (E.faults err.new) }
+{
+    match try_query(alloc, shelf, out, document, query, quantum) {
+        Ok(counts) => {
+            say(err, counts.as_bytes());
+            0
+        }
+        Err(Refusal::Memory) => refuse(err, b"sage: memory\n", 1),
+        Err(Refusal::File { name }) => refuse_file(alloc, err, &name),
+        Err(Refusal::Data) => refuse(err, b"sage: data\n", 4),
+        Err(Refusal::Query) => refuse(err, b"sage: query form\n", 6),
+        Err(Refusal::Output) => refuse(err, b"sage: output\n", 9),
+    }
+}
+
+/// Runs `try` over the files of these names: each status comes exactly where it must.
+fn run_try<S: Shelf, O: Sink, E: Sink>(
+    alloc: Global,
+    shelf: &mut S,
+    out: &mut O,
+    err: &mut E,
+    document: &Text,
+    query: &Text,
+    quantum: u32,
+) -> u8
+    requires { 1 ≤ quantum }
+    ensures same { S.files shelf.new ≡ S.files shelf.old }
+    ensures done { result ≡ 0 → IsTryDone document.now query.now quantum (S.files shelf.old) (O.written out.old) (O.written out.new) (E.written err.old) (E.written err.new) (E.faults err.old) (E.faults err.new) }
+    ensures file { result ≡ 3 → WhyTryFile document.now query.now (S.files shelf.old) (S.faults shelf.old) (S.faults shelf.new) (E.written err.old) (E.written err.new) (E.faults err.old) (E.faults err.new) }
+    ensures no_data { result ≡ 4 → WhyTryData document.now query.now (S.files shelf.old) }
+    ensures no_query { result ≡ 6 → WhyTryQuery document.now query.now (S.files shelf.old) }
+    ensures output { result ≡ 9 → WhyTryOutput document.now query.now quantum (S.files shelf.old) (O.written out.old) (O.written out.new) (O.faults out.old) (O.faults out.new) }
+    ensures there { Lacks (S.files shelf.old) document.now ⊎ Lacks (S.files shelf.old) query.now → (result ≡ 3) ⊎ (result ≡ 1) }
+    ensures statuses { (result ≡ 0) ⊎ (result ≡ 1) ⊎ (result ≡ 3) ⊎ (result ≡ 4) ⊎ (result ≡ 6) ⊎ (result ≡ 9) }
+    ensures unwritten { (result ≡ 0 → ⊥) → (result ≡ 9 → ⊥) → O.written out.new ≡ O.written out.old }
+    ensures message { (result ≡ 0 → ⊥) → (result ≡ 3 → ⊥) → IsTold (E.written err.old) (E.written err.new) (message_of result) (E.faults err.old) (E.faults err.new) }
+    ensures refuses_data { RefusesData document.now query.now (S.files shelf.old) (S.faults shelf.old) (S.faults shelf.new) result }
+    ensures refuses_query { RefusesQuery document.now query.now (S.files shelf.old) (S.faults shelf.old) (S.faults shelf.new) result }
+    ensures complete { IsComplete document.now query.now (S.files shelf.old) (S.faults shelf.old) (S.faults shelf.new) (O.faults out.old) (O.faults out.new) result }
+{
+    end_try(alloc, shelf, out, err, document, query, quantum)
+}
+
+/// Runs a command.
+fn run_command<S: Shelf, O: Sink, E: Sink>(
+    alloc: Global,
+    shelf: &mut S,
+    out: &mut O,
+    err: &mut E,
+    command: &Command,
+) -> u8
+    requires { HasQuantum command.now }
+    ensures same { S.files shelf.new ≡ S.files shelf.old }
+    ensures done { result ≡ 0 → OfCommand command.now (λ document query quantum. IsTryDone document query quantum (S.files shelf.old) (O.written out.old) (O.written out.new) (E.written err.old) (E.written err.new) (E.faults err.old) (E.faults err.new)) }
+    ensures file { result ≡ 3 → OfCommand command.now (λ document query quantum. WhyTryFile document query (S.files shelf.old) (S.faults shelf.old) (S.faults shelf.new) (E.written err.old) (E.written err.new) (E.faults err.old) (E.faults err.new)) }
+    ensures no_file { OfCommand command.now (λ document query quantum. Lacks (S.files shelf.old) document ⊎ Lacks (S.files shelf.old) query → (result ≡ 3) ⊎ (result ≡ 1)) }
+    ensures no_data { result ≡ 4 → OfCommand command.now (λ document query quantum. WhyTryData document query (S.files shelf.old)) }
+    ensures no_query { result ≡ 6 → OfCommand command.now (λ document query quantum. WhyTryQuery document query (S.files shelf.old)) }
+    ensures output { result ≡ 9 → OfCommand command.now (λ document query quantum. WhyTryOutput document query quantum (S.files shelf.old) (O.written out.old) (O.written out.new) (O.faults out.old) (O.faults out.new)) }
+    ensures statuses { (result ≡ 0) ⊎ (result ≡ 1) ⊎ (result ≡ 3) ⊎ (result ≡ 4) ⊎ (result ≡ 6) ⊎ (result ≡ 9) }
+    ensures unwritten { (result ≡ 0 → ⊥) → (result ≡ 9 → ⊥) → O.written out.new ≡ O.written out.old }
+    ensures message { (result ≡ 0 → ⊥) → (result ≡ 3 → ⊥) → IsTold (E.written err.old) (E.written err.new) (message_of result) (E.faults err.old) (E.faults err.new) }
+    ensures refuses_data { OfCommand command.now (λ document query quantum. RefusesData document query (S.files shelf.old) (S.faults shelf.old) (S.faults shelf.new) result) }
+    ensures refuses_query { OfCommand command.now (λ document query quantum. RefusesQuery document query (S.files shelf.old) (S.faults shelf.old) (S.faults shelf.new) result) }
+    ensures complete { OfCommand command.now (λ document query quantum. IsComplete document query (S.files shelf.old) (S.faults shelf.old) (S.faults shelf.new) (O.faults out.old) (O.faults out.new) result) }
+{
+    match command {
+        Command::Try {
+            document,
+            query,
+            quantum,
+        } => run_try(alloc, shelf, out, err, document, query, *quantum),
+    }
+}
+
+/// Runs the command that the words spell, and answers its status: 0 where it did all its work, and
+/// else 1 for want of memory, 2 where the words spell no command, 3 for a file that was not read, 4
+/// for a document and 6 for a query that is refused, 9 for a failed output.
+///
+/// The words are those after the program's name. The work goes in this order: the words, both files
+/// (the document first), the document, the query, the output. With a status other than 0 the errors
+/// get one line that says why; with 0 they get the counts of pages, steps and bytes of `try`.
+pub fn run<S: Shelf, L: Link, D: Door, O: Sink, E: Sink>(
+    alloc: Global,
+    words: &[Text],
+    shelf: &mut S,
+    link: &mut L,
+    door: &mut D,
+    out: &mut O,
+    err: &mut E,
+) -> u8
+    ensures statuses { (result ≡ 0) ⊎ (result ≡ 1) ⊎ (result ≡ 2) ⊎ (result ≡ 3) ⊎ (result ≡ 4) ⊎ (result ≡ 6) ⊎ (result ≡ 9) }
+    ensures done { result ≡ 0 → UnderCommand words.now (λ document query quantum. IsTryDone document query quantum (S.files shelf.old)
+        (O.written out.old) (O.written out.new) (E.written err.old) (E.written err.new) (E.faults err.old) (E.faults err.new)) }
+    ensures words { (result ≡ 2) ↔ (command_of words.now ≡ None) }
+    ensures file { result ≡ 3 → UnderCommand words.now (λ document query quantum. WhyTryFile document query (S.files shelf.old)
+        (S.faults shelf.old) (S.faults shelf.new) (E.written err.old) (E.written err.new) (E.faults err.old) (E.faults err.new)) }
+    ensures no_file { UnderCommand words.now (λ document query quantum.
+        Lacks (S.files shelf.old) document ⊎ Lacks (S.files shelf.old) query → (result ≡ 3) ⊎ (result ≡ 1)) }
+    ensures document { result ≡ 4 → UnderCommand words.now (λ document query quantum. WhyTryData document query (S.files shelf.old)) }
+    ensures query { result ≡ 6 → UnderCommand words.now (λ document query quantum. WhyTryQuery document query (S.files shelf.old)) }
+    ensures output { result ≡ 9 → UnderCommand words.now (λ document query quantum. WhyTryOutput document query quantum (S.files shelf.old)
+        (O.written out.old) (O.written out.new) (O.faults out.old) (O.faults out.new)) }
+    ensures refuses_document { UnderCommand words.now (λ document query quantum.
+        RefusesData document query (S.files shelf.old) (S.faults shelf.old) (S.faults shelf.new) result) }
+    ensures refuses_query { UnderCommand words.now (λ document query quantum.
+        RefusesQuery document query (S.files shelf.old) (S.faults shelf.old) (S.faults shelf.new) result) }
+    ensures complete { UnderCommand words.now (λ document query quantum.
+        IsComplete document query (S.files shelf.old) (S.faults shelf.old) (S.faults shelf.new) (O.faults out.old) (O.faults out.new) result) }
+    ensures message { (result ≡ 0 → ⊥) → (result ≡ 3 → ⊥) → IsTold (E.written err.old) (E.written err.new) (message_of result) (E.faults err.old) (E.faults err.new) }
+    ensures unwritten { (result ≡ 0 → ⊥) → (result ≡ 9 → ⊥) → O.written out.new ≡ O.written out.old }
+    ensures files { S.files shelf.new ≡ S.files shelf.old }
+    ensures link { link.new ≡ link.old }
+    ensures door { door.new ≡ door.old }
+{
+    match read_words(alloc, words) {
+        Err(WordsFault::Words) => refuse(err, b"sage: words\n", 2),
+        Err(WordsFault::Memory) => refuse(err, b"sage: memory\n", 1),
+        Ok(command) => run_command(alloc, shelf, out, err, &command),
+    }
+}
