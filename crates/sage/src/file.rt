@@ -70,6 +70,7 @@ fn read_rest<S: Shelf>(
     ensures later { S.faults shelf.old ≤ S.faults shelf.new }
     ensures whole { (file : List ℕ) → Tells (S.files shelf.old) name.now file → bytes.old.items ≡ take (length bytes.old.items) file
         → OnOk result (bytes.new.items ≡ take wanted file) }
+    ensures most { OnOk result (length bytes.new.items ≤ wanted) }
     ensures why { IfErr result (λ e. WhyUnread e (S.files shelf.old) name.now (S.faults shelf.old) (S.faults shelf.new)) }
 {
     'pieces: while bytes.len() < wanted {
@@ -98,6 +99,7 @@ fn read_front<S: Shelf>(
     ensures same { S.files shelf.new ≡ S.files shelf.old }
     ensures later { S.faults shelf.old ≤ S.faults shelf.new }
     ensures whole { (file : List ℕ) → Tells (S.files shelf.old) name.now file → IfOk result (λ bytes. bytes.items ≡ take wanted file) }
+    ensures most { IfOk result (λ bytes. length bytes.items ≤ wanted) }
     ensures why { IfErr result (λ e. WhyUnread e (S.files shelf.old) name.now (S.faults shelf.old) (S.faults shelf.new)) }
 {
     let mut bytes = Vec::with_capacity(alloc, wanted)?;
@@ -119,6 +121,7 @@ pub fn read_file<S: Shelf>(
     ensures same { S.files shelf.new ≡ S.files shelf.old }
     ensures later { S.faults shelf.old ≤ S.faults shelf.new }
     ensures whole { (file : List ℕ) → Tells (S.files shelf.old) name.now file → IfOk result (λ bytes. bytes.items ≡ take (limit + 1) file) }
+    ensures most { IfOk result (λ bytes. length bytes.items ≤ limit + 1) }
     ensures there { Lacks (S.files shelf.old) name.now → IfOk result (λ bytes. ⊥) }
     ensures why { IfErr result (λ e. WhyUnread e (S.files shelf.old) name.now (S.faults shelf.old) (S.faults shelf.new)) }
 {

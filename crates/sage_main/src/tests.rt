@@ -55,7 +55,7 @@ fn file_of(alloc: Global, name: &str, bytes: &[u8]) -> Result<MemFile, Unready> 
 
 /// Runs the words over a shelf with the files `d.nt` and `q.rq`. The calls of the output whose
 /// numbers are among `fails` fail.
-pub fn run_over(
+pub(crate) fn run_over(
     alloc: Global,
     document: &[u8],
     query: &[u8],
@@ -86,7 +86,7 @@ pub fn run_over(
 }
 
 /// Asserts what a call answers and writes.
-pub fn expect(rt: &impl Abort, outcome: &Outcome, status: u8, out: &str, err: &str) {
+pub(crate) fn expect(rt: &impl Abort, outcome: &Outcome, status: u8, out: &str, err: &str) {
     assert_eq!(rt; outcome.status, status);
     assert_eq!(rt; outcome.out.bytes(), out.as_bytes());
     assert_eq!(rt; outcome.err.bytes(), err.as_bytes());
