@@ -25,7 +25,8 @@ use Rattle.term_core.proofs.Bags.{In-append_left, In-append_right, In-append_cas
 use Rattle.term_core.proofs.Merges.{terms_same}
 use Rattle.sparql_tree.specs.Bgp.{parts}
 use Rattle.plan_tree.proofs.Orders.{all_at}
-use Rattle.pattern_data.specs.declared.table.Slot.{Slot}
+use Rattle.pattern_data.specs.declared.slot.Slot.{Slot}
+use Rattle.pattern_data.specs.Slots.{seen, slot_cmp, slots_total}
 use Rattle.pattern_data.specs.Table.{numbered, term_at, is_last, with_last, AreSlots, AreRanked, IsDictionary}
 use Rattle.pattern_data.proofs.TableLists.{In-get_or, place_of, In-take, In-permutation, In-from_permutation, length-mapped, get_or-mapped}
 
@@ -298,27 +299,13 @@ last_read xs x t e =
     ap (λ m. get_or (map now xs) (m - 1) t) n ∙ get_or-mapped now xs (length xs - 1) x t w ∙ ap now (get_or_from_slice_get xs (length xs - 1) x x (sym e)) in
     ap (λ y. same_term y t) (sym at) ∙ sym (last_at (map now xs) t t (omega arith))
 
-abbrev pub seen : Slot → Term × ℕ
-seen slot = (slot.term.now, slot.place)
-
-abbrev pub slot_cmp : Slot → Slot → Ordering
-slot_cmp a b = ordering_then (term_cmp a.term.now b.term.now) (nat_cmp a.place b.place)
-
-slots_total : IsTotalOrder slot_cmp
-slots_total = then_total (on_total (λ (s : Slot). s.term.now) terms_total) (on_total (λ (s : Slot). s.place) nat_cmp_total)
-
-first_part : (a b : Ordering) → is_lt (ordering_then a b) ≡ false → is_lt a ≡ false
-first_part Less b e = e
-first_part Equal b e = refl
-first_part Greater b e = refl
-
 never_falls : (xs : List Slot) (x : Slot) → IsSorted slot_cmp xs → (i j : ℕ) (d : Term × ℕ) → i ≤ j → j < length xs → is_lt (term_cmp (get_or (map seen xs) j d).0 (get_or (map seen xs) i d).0) ≡ false
 never_falls xs x h i j d le lt =
     let far : is_lt (slot_cmp (get_or xs j x) (get_or xs i x)) ≡ false =
     sorted_far (λ (a b : Slot). is_lt (slot_cmp a b)) (ranks_by slots_total (λ (a : Slot). a)) xs h i j x le lt in
     let first = get_or-mapped seen xs i x d (omega arith) in
     let second = get_or-mapped seen xs j x d lt in
-    (λ k. is_lt (term_cmp (second k).0 (first k).0)) ∙ first_part (term_cmp (get_or xs j x).term.now (get_or xs i x).term.now) (nat_cmp (get_or xs j x).place (get_or xs i x).place) far
+    (λ k. is_lt (term_cmp (second k).0 (first k).0)) ∙ far
 
 sorted_seen : (xs : List Slot) → IsSorted slot_cmp xs → (i j : ℕ) (d : Term × ℕ) → i ≤ j → j < length (map seen xs) → is_lt (term_cmp (get_or (map seen xs) j d).0 (get_or (map seen xs) i d).0) ≡ false
 sorted_seen [] h i j d le lt = absurd (omega arith)

@@ -2,6 +2,7 @@
 #![tactic(auto)]
 
 mod range;
+mod slot;
 mod table;
 mod table_id;
 #[cfg(test)]

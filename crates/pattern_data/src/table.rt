@@ -8,15 +8,9 @@ ghost use Rattle.term_core.specs.declared.term.Triple.{Triple};
 ghost use Rattle.sparql_tree.specs.Bgp.{parts};
 ghost use Rattle.pattern_data.specs.Table.{numbered, trios, is_last, with_last, AreSlots, AreRanked, IsDictionary, IsTable, IsFound, terms_in, ids_in, term_at};
 
+use crate::slot::Slot;
 use std::alloc::Global;
 use term_core::{IdTriple, Memory, Term, Triple};
-
-/// A term of the document, and its place: how many subjects, predicates and objects come before it.
-#[derive(Clone, Copy, Debug, PartialEq, Eq, PartialOrd, Ord)]
-struct Slot<'a> {
-    term: &'a Term,
-    place: u32,
-}
 
 /// The data: its terms in order, each once, and its triples by the numbers of their terms, in order,
 /// each once. A term's number is how many of the terms come before it.

@@ -104,8 +104,8 @@ pub fn compare(a: &Term, b: &Term) -> Ordering
     ensures { result ≡ term_cmp a.now b.now }
 {
     match (a, b) {
-        (Term::Iri(a), Term::Iri(b)) => a.bytes().cmp(b.bytes()),
-        (Term::Blank(a), Term::Blank(b)) => a.bytes().cmp(b.bytes()),
+        (Term::Iri(a), Term::Iri(b)) => a.as_str().cmp(b.as_str()),
+        (Term::Blank(a), Term::Blank(b)) => a.as_str().cmp(b.as_str()),
         (
             Term::Literal {
                 lexical,
@@ -117,11 +117,14 @@ pub fn compare(a: &Term, b: &Term) -> Ordering
                 datatype: datatype_b,
                 lang: lang_b,
             },
-        ) => lexical
-            .bytes()
-            .cmp(lexical_b.bytes())
-            .then(datatype.bytes().cmp(datatype_b.bytes()))
-            .then(lang.bytes().cmp(lang_b.bytes())),
+        ) => match lexical.as_str().cmp(lexical_b.as_str()) {
+            Ordering::Equal => datatype
+                .as_str()
+                .cmp(datatype_b.as_str())
+                .then(lang.as_str().cmp(lang_b.as_str())),
+            Ordering::Less => Ordering::Less,
+            Ordering::Greater => Ordering::Greater,
+        },
         _ => rank(a).cmp(&rank(b)),
     }
 }

@@ -4,7 +4,8 @@ use Rattle.sparql_tree.specs.Bgp.{parts}
 use Rattle.term_core.specs.declared.term.Term.{Term}
 use Rattle.pattern_data.specs.Table.{AreRanked, IsDictionary}
 use Rattle.pattern_data.proofs.TableLists.{length-mapped}
-use Rattle.pattern_data.proofs.TableSlots.{seen, seen_permutation, seen_slots, seen_length, dictionary_from}
+use Rattle.pattern_data.proofs.TableSlots.{seen_permutation, seen_slots, seen_length, dictionary_from}
+use Rattle.pattern_data.specs.Slots.{seen}
 use Rattle.pattern_data.proofs.table.number_terms.Goals as goal
 
 pub ranked-requires-clause-few : goal.ranked-requires-clause-few

@@ -3,7 +3,7 @@ use Rattle.std.proofs.lemmas.List.{length-set}
 use Rattle.term_core.specs.declared.term.Term.{Term}
 use Rattle.term_core.specs.Bags.{In}
 use Rattle.term_core.proofs.Bags.{In-map}
-use Rattle.pattern_data.specs.declared.table.Slot.{Slot}
+use Rattle.pattern_data.specs.declared.slot.Slot.{Slot}
 use Rattle.pattern_data.specs.Table.{AreSlots, AreRanked}
 use Rattle.pattern_data.proofs.TableLists.{In-get_or, length-mapped, get_or-mapped}
 use Rattle.pattern_data.proofs.TableSlots.{ranked_none, ranked_next}

@@ -1,5 +1,5 @@
 use Rattle.std.proofs.Common.{◌≡◌, ◌≤◌, length, map, take}
-use Rattle.pattern_data.specs.declared.table.Slot.{Slot}
+use Rattle.pattern_data.specs.declared.slot.Slot.{Slot}
 use Rattle.pattern_data.specs.Table.{AreRanked}
 use Rattle.pattern_data.proofs.table.ranked.Given as goal
 

@@ -3,7 +3,7 @@ use Rattle.std.specs.Prelude.{flat_map}
 use Rattle.std.proofs.lemmas.List.{map-append}
 use Rattle.term_core.specs.declared.term.Term.{Term}
 use Rattle.sparql_tree.specs.Bgp.{parts}
-use Rattle.pattern_data.specs.declared.table.Slot.{Slot}
+use Rattle.pattern_data.specs.declared.slot.Slot.{Slot}
 use Rattle.pattern_data.specs.Table.{numbered}
 use Rattle.pattern_data.proofs.TableSlots.{slots_more}
 use Rattle.pattern_data.proofs.table.slots.Goals as goal

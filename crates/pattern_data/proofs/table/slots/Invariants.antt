@@ -2,7 +2,7 @@ use Rattle.std.proofs.Common.{◌≡◌, ◌*◌, ◌++◌, map, drop}
 use Rattle.std.specs.Prelude.{flat_map}
 use Rattle.sparql_tree.specs.Bgp.{parts}
 use Rattle.pattern_data.specs.Table.{numbered}
-use Rattle.pattern_data.specs.declared.table.Slot.{Slot}
+use Rattle.pattern_data.specs.declared.slot.Slot.{Slot}
 use Rattle.pattern_data.proofs.table.slots.Given as goal
 
 abbrev pub invariant-loop-triple : goal.invariant-loop-triple
