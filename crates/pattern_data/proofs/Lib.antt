@@ -4,3 +4,4 @@ pub mod TableOrder
 pub mod TableFound
 pub mod TableRange
 pub mod TableRanks
+pub mod SlotTies

@@ -25,21 +25,12 @@ fn slots<'a>(alloc: Global, document: &'a [Triple]) -> Result<Vec<Slot<'a>>, Mem
     requires { length document.now ≤ 4194303 }
     ensures { IfOk result (λ v. map (λ slot. (slot.term.now, slot.place)) v.items ≡ numbered 0 (flat_map parts document.now)) }
 {
-    let mut slots = Vec::new(alloc);
+    let mut slots = Vec::with_capacity(alloc, 3 * document.len())?;
     let mut place = 0;
     for triple in document {
-        slots.push(Slot {
-            term: &triple.subject,
-            place,
-        })?;
-        slots.push(Slot {
-            term: &triple.predicate,
-            place: place + 1,
-        })?;
-        slots.push(Slot {
-            term: &triple.object,
-            place: place + 2,
-        })?;
+        slots.push(Slot::of(&triple.subject, place))?;
+        slots.push(Slot::of(&triple.predicate, place + 1))?;
+        slots.push(Slot::of(&triple.object, place + 2))?;
         place += 3;
     }
     Ok(slots)
@@ -49,7 +40,7 @@ fn slots<'a>(alloc: Global, document: &'a [Triple]) -> Result<Vec<Slot<'a>>, Mem
 fn grouped(alloc: Global, numbers: &[u32]) -> Result<Vec<IdTriple>, Memory>
     ensures { IfOk result (λ v. v.items ≡ trios numbers.now) }
 {
-    let mut triples = Vec::new(alloc);
+    let mut triples = Vec::with_capacity(alloc, numbers.len() / 3)?;
     let mut left = numbers;
     while let [s, p, o, rest @ ..] = left {
         triples.push(IdTriple {

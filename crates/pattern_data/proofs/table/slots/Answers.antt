@@ -11,14 +11,14 @@ use Rattle.pattern_data.proofs.table.slots.Goals as goal
 abbrev seen : Slot → Term × ℕ
 seen slot = (slot.term.now, slot.place)
 
-pushed : (xs ys : List Slot) (slot : Slot) → ys ≡ xs ++ slot ∷ [] → map seen ys ≡ map seen xs ++ seen slot ∷ []
-pushed xs ys slot e = ap (map seen) e ∙ map-append seen xs (slot ∷ [])
+pushed : (xs ys : List Slot) (slot : Slot) (t : Term) (place : ℕ) → ys ≡ xs ++ slot ∷ [] → slot.term.now ≡ t → slot.place ≡ place → map seen ys ≡ map seen xs ++ (t, place) ∷ []
+pushed xs ys slot t place e is at = ap (map seen) e ∙ map-append seen xs (slot ∷ []) ∙ (λ i. map seen xs ++ (is i, at i) ∷ [])
 
 pub loop-triple-preserved : goal.loop-triple-preserved
 loop-triple-preserved c =
-    let first = pushed _ _ _ c.in_ok-push.ensures.items in
-    let second = pushed _ _ _ c.in_ok-push-2.ensures.items in
-    let third = pushed _ _ _ c.in_ok-push-3.ensures.items in
+    let first = pushed _ _ _ _ _ c.in_ok-push.ensures.items c.of.ensures.term c.of.ensures.place in
+    let second = pushed _ _ _ _ _ c.in_ok-push-2.ensures.items c.of-in-loop-triple.ensures.term c.of-in-loop-triple.ensures.place in
+    let third = pushed _ _ _ _ _ c.in_ok-push-3.ensures.items c.of-in-loop-triple-2.ensures.term c.of-in-loop-triple-2.ensures.place in
     let t = c.triple-item.result in
     let place = c.loop-triple.place in
     let all = third ∙ ap (λ w. w ++ (t.object, place + 2) ∷ []) (second ∙ ap (λ w. w ++ (t.predicate, place + 1) ∷ []) first) in (
