@@ -1,5 +1,5 @@
 // Reading a file, up to a limit.
-ghost use Rattle.std.specs.Prelude.{◌≡◌, ◌≤◌, ◌<◌, ◌+◌, ◌^◌, ℕ, List, length, take, min, OnOk, IfErr, IfOk};
+ghost use Rattle.std.specs.Prelude.{◌≡◌, ◌≤◌, ◌<◌, ◌+◌, ◌^◌, ℕ, List, length, take, OnOk, IfErr, IfOk};
 ghost use Rattle.sage_outside.specs.Shelf.{Lacks};
 ghost use Rattle.sage.specs.Told.{Tells};
 ghost use Rattle.sage.specs.Files.{WhyUnread};
@@ -89,11 +89,12 @@ fn make_buffer(alloc: Global) -> Result<Vec<u8>, FileFault>
     Ok(vec![in alloc; 0; PIECE]?)
 }
 
-/// Reads a file to its end, or so many bytes of it.
+/// Reads a file to its end, or `wanted` bytes of it. Room for so many as `room` is made at once.
 fn read_front<S: Shelf>(
     alloc: Global,
     shelf: &mut S,
     name: &str,
+    room: usize,
     wanted: usize,
 ) -> Result<Vec<u8>, FileFault>
     ensures same { S.files shelf.new ≡ S.files shelf.old }
@@ -102,13 +103,14 @@ fn read_front<S: Shelf>(
     ensures most { IfOk result (λ bytes. length bytes.items ≤ wanted) }
     ensures why { IfErr result (λ e. WhyUnread e (S.files shelf.old) name.now (S.faults shelf.old) (S.faults shelf.new)) }
 {
-    let mut bytes = Vec::with_capacity(alloc, wanted)?;
+    let mut bytes = Vec::with_capacity(alloc, room)?;
     let mut buffer = make_buffer(alloc)?;
     read_rest(shelf, name, wanted, &mut buffer, &mut bytes)?;
     Ok(bytes)
 }
 
-/// Reads a file to its end, or one byte past the limit, which is below 2^62.
+/// Reads a file to its end, or one byte past the limit, which is below 2^62. The length that the
+/// shelf answers serves to make room and nothing else, since a pipe has none.
 ///
 /// `File` comes where the file is not there or a call of the shelf failed.
 pub fn read_file<S: Shelf>(
@@ -127,8 +129,9 @@ pub fn read_file<S: Shelf>(
 {
     match shelf.size(name) {
         Ok(size) => {
-            let wanted = size.min(limit + 1) as usize;
-            match read_front(alloc, shelf, name, wanted) {
+            let most = limit + 1;
+            let room = size.min(most) as usize;
+            match read_front(alloc, shelf, name, room, most as usize) {
                 Ok(bytes) => Ok(bytes),
                 Err(fault) => Err(fault),
             }

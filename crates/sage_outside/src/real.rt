@@ -10,15 +10,17 @@ use std::io::{ErrorKind, Read, Seek, SeekFrom, Write};
 use std::rt::Files;
 use std::{fs, io};
 
-/// An open file with the name that it was opened by, unless no memory was found for the name.
+/// An open file with the name that it was opened by, unless no memory was found for the name, and
+/// the place at which it stands.
 #[derive(Drop)]
 struct Opened<F> {
     name: Option<String>,
+    place: u64,
     file: F,
 }
 
 /// The files of the system, by their paths. The file that was read last is kept open, so that a
-/// file that is read piece by piece is opened once.
+/// file that is read piece by piece is opened once, and a pipe can be read from its start on.
 #[derive(Drop)]
 pub struct FileShelf<R: Files> {
     alloc: Global,
@@ -71,7 +73,11 @@ impl<R: Files + Drop> FileShelf<R> {
         }
         let file = fs::open(&self.rt, name)?;
         let name = String::from_str(self.alloc, name).ok();
-        Ok(Opened { name, file })
+        Ok(Opened {
+            name,
+            place: 0,
+            file,
+        })
     }
 
     fn size_of(&mut self, name: &str) -> io::Result<u64>
@@ -88,8 +94,11 @@ impl<R: Files + Drop> FileShelf<R> {
         ensures same { self.new.faults ≡ self.old.faults }
     {
         let mut opened = self.opened(name)?;
-        opened.file.seek(SeekFrom::Start(at))?;
+        if opened.place != at {
+            opened.file.seek(SeekFrom::Start(at))?;
+        }
         let count = opened.file.read(buf)?;
+        opened.place = at.saturating_add(count as u64);
         self.kept = Some(opened);
         Ok(count)
     }
@@ -194,6 +203,9 @@ mod tests {
         shelf.append(name, b"de")?;
         assert_eq!(rt; shelf.read_at(name, 0, &mut buf)?, 5);
         assert_eq!(rt; &buf[..5], b"abcde".as_slice());
+        assert_eq!(rt; shelf.read_at(name, 5, &mut buf)?, 0);
+        assert_eq!(rt; shelf.read_at(name, 3, &mut buf)?, 2);
+        assert_eq!(rt; &buf[..2], b"de".as_slice());
         assert_eq!(rt; shelf.size(name)?, 5);
         fs::remove_file(&rt, name)?;
         Ok(())
