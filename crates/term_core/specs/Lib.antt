@@ -5,3 +5,6 @@ pub mod Ids
 pub mod Bags
 pub mod Mappings
 pub mod Texts
+pub mod Characters
+pub mod Escapes
+pub mod Names

@@ -1,6 +1,7 @@
 //! RDF terms, triples, triple patterns and solution rows, with one total order on terms.
 #![tactic(auto)]
 
+mod characters;
 mod copies;
 mod items;
 mod law;
@@ -11,6 +12,7 @@ mod term;
 mod tests;
 mod text;
 
+pub use characters::{is_pn, is_pn_base, is_pn_u};
 pub use copies::TryCopy;
 pub use items::Items;
 pub use law::{

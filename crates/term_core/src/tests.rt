@@ -1,6 +1,6 @@
 use crate::{
     IdTriple, Items, NotATriple, Pattern, Place, Row, Term, Text, TextFault, Triple, TryCopy,
-    check_triple, compare, size,
+    check_triple, compare, is_pn, is_pn_base, is_pn_u, size,
 };
 use std::alloc::Global;
 use std::cmp::Ordering;
@@ -173,4 +173,49 @@ fn copies_each_kind(rt: HostRuntime) -> Result<(), Fail> {
     assert!(rt; can_copy(alloc, Row::empty(alloc)));
     assert!(rt; can_copy(alloc, Items::<Text>::new(alloc)));
     Ok(())
+}
+
+/// Whether the character is of PN_CHARS_BASE, of PN_CHARS_U and of PN_CHARS.
+fn classes(c: char) -> (bool, bool, bool) {
+    (is_pn_base(c), is_pn_u(c), is_pn(c))
+}
+
+#[test]
+fn tells_characters_of_names(rt: HostRuntime) {
+    let letters = [
+        'A',
+        'z',
+        '\u{c0}',
+        '\u{37d}',
+        '\u{2070}',
+        '\u{fffd}',
+        '\u{10000}',
+        '\u{effff}',
+    ];
+    for c in letters {
+        assert_eq!(rt; classes(c), (true, true, true));
+    }
+    assert_eq!(rt; classes('_'), (false, true, true));
+    for c in [
+        '-', '0', '9', '\u{b7}', '\u{300}', '\u{36f}', '\u{203f}', '\u{2040}',
+    ] {
+        assert_eq!(rt; classes(c), (false, false, true));
+    }
+    let others = [
+        '.',
+        ':',
+        '@',
+        '[',
+        '\u{bf}',
+        '\u{d7}',
+        '\u{f7}',
+        '\u{37e}',
+        '\u{2041}',
+        '\u{3000}',
+        '\u{fdd0}',
+        '\u{f0000}',
+    ];
+    for c in others {
+        assert_eq!(rt; classes(c), (false, false, false));
+    }
 }
