@@ -2,10 +2,12 @@
 use Rattle.std.proofs.Common.{◌≡◌, ℕ, Bool, true, false, cond, ◌&&◌, ◌||◌, List, [], ◌∷◌, ◌++◌, ◌⊎◌, inl, inr, Option, Some, None, eqb, refl, sym, ap, ◌∙◌, subst}
 use Rattle.std.proofs.lemmas.List.{append-nil}
 use Rattle.std.proofs.lemmas.Bool.{eqb-true, or_cases, not-false}
-use Rattle.nt_text.specs.Characters.{is_line, front, after, begins, AreAll}
+use Rattle.term_core.specs.Characters.{front, after, begins, AreAll}
+use Rattle.nt_text.specs.Characters.{is_line}
 use Rattle.nt_text.specs.Grammar.{IsLineEnd, IsEndedLine, AreLinesOf}
 use Rattle.nt_text.specs.Reading.{lines_of, lines_left, behind_end, onto_first}
-use Rattle.nt_text.proofs.Laws.{some_is, parts, passes, behind_stops, stops}
+use Rattle.nt_text.proofs.Steps.{some_is, passes, behind_stops, stops}
+use Rattle.nt_text.proofs.Cut.{parts}
 
 -- the first line, and those behind its end
 pub lines_cut : (bytes : List ℕ) → lines_of bytes ≡ front is_line bytes ∷ lines_left (behind_end (after is_line bytes))

@@ -1,5 +1,6 @@
-pub mod Utf8
-pub mod Encoded
-pub mod Laws
+pub mod Cut
+pub mod Steps
 pub mod Cuts
+pub mod Spelled
+pub mod Suffix
 pub mod Documents

@@ -1,23 +1,54 @@
--- The grammar of a document: how each part of a text is spelled, apart from how it is read.
--- `IsX text x rest`: the text begins with x, the longest there, and goes on with rest.
-use Rattle.std.specs.Prelude.{◌≡◌, ◌⊎◌, ◌++◌, ℕ, true, false, codes, ◌==◌, List, [], ◌∷◌}
-use Rattle.std.specs.Str.{IsUtf8}
+-- The grammar of a document: how each part of a text is spelled, apart from how it is read. A text is a list of
+-- characters, and the texts of terms are lists of bytes. `IsX text x rest`: the text begins with x and goes on with rest.
+use Rattle.std.specs.Prelude.{◌≡◌, ◌≢◌, ◌⊎◌, ◌++◌, ◌+◌, ◌≤◌, ℕ, true, false, codes, ◌==◌, List, [], ◌∷◌, length, map}
+use Rattle.std.specs.Char.{to_ascii_lowercase}
+use Rattle.std.specs.Str.{encode_utf8_all}
 use Rattle.term_core.specs.Texts.{xsd_string}
+use Rattle.term_core.specs.Spelling.{lang_string}
+use Rattle.term_core.specs.Characters.{is_plain, begins, AreAll, IsTextOf}
+use Rattle.term_core.specs.Escapes.{IsIriBody, IsEscaped, IsStringEscape}
+use Rattle.term_core.specs.Names.{has_scheme, IsLabel, IsTag}
 use Rattle.term_core.specs.declared.term.Term.{Term}
 use Rattle.term_core.specs.declared.term.Term.TheVariants as terms
 use Rattle.term_core.specs.declared.term.Triple.{Triple}
-use Rattle.nt_text.specs.Characters.{is_blank, is_iri, is_plain, is_line, begins, has_scheme, AreAll, AreCharacters}
+use Rattle.nt_text.specs.Characters.{is_blank, is_line}
 
--- an IRI: < characters >, with a scheme; as > is none of them, this is the longest (RDF 1.1 N-Triples 7, IRIREF)
+-- an IRI: < characters and escapes >, with a scheme; as > is none of them, this is the longest (RDF 1.1 N-Triples 7, IRIREF)
 pub record IsIri (text iri rest : List ℕ) : Type 0 where
-  pub spelled : text ≡ codes "<" ++ (iri ++ (codes ">" ++ rest))
-  pub characters : AreCharacters is_iri iri
-  pub scheme : has_scheme iri ≡ true
+  pub body : List ℕ
+  pub characters : List ℕ
+  pub spelled : text ≡ 60 ∷ (body ++ 62 ∷ rest)
+  pub reads : IsIriBody body characters
+  pub scheme : has_scheme characters ≡ true
+  pub bytes : iri ≡ encode_utf8_all characters
 
--- a string: " characters "; as " is none of them, this is the longest (RDF 1.1 N-Triples 7, STRING_LITERAL_QUOTE)
+-- a string: " characters and escapes "; as " is none of them, this is the longest (RDF 1.1 N-Triples 7, STRING_LITERAL_QUOTE)
 pub record IsString (text lexical rest : List ℕ) : Type 0 where
-  pub spelled : text ≡ codes "\"" ++ (lexical ++ (codes "\"" ++ rest))
-  pub characters : AreCharacters is_plain lexical
+  pub body : List ℕ
+  pub characters : List ℕ
+  pub spelled : text ≡ 34 ∷ (body ++ 34 ∷ rest)
+  pub reads : IsEscaped is_plain IsStringEscape body characters
+  pub bytes : lexical ≡ encode_utf8_all characters
+
+-- nothing longer at the front of the text is of this kind
+abbrev pub IsLongest : (List ℕ → Type 0) → List ℕ → List ℕ → Type 0
+IsLongest Is text found = (longer behind : List ℕ) → Is longer → text ≡ longer ++ behind → length longer ≤ length found
+
+-- a label of a blank node behind _: and the longest there (RDF 1.1 N-Triples 7, BLANK_NODE_LABEL)
+pub record IsBlankNode (text label rest : List ℕ) : Type 0 where
+  pub characters : List ℕ
+  pub spelled : text ≡ 95 ∷ 58 ∷ (characters ++ rest)
+  pub is_label : IsLabel characters
+  pub longest : IsLongest IsLabel (characters ++ rest) characters
+  pub bytes : label ≡ encode_utf8_all characters
+
+-- a tag behind @, the longest there, put in lower case (RDF 1.1 N-Triples 7, LANGTAG; RDF 1.1 Concepts 3.3)
+pub record IsLang (text lang rest : List ℕ) : Type 0 where
+  pub tag : List ℕ
+  pub spelled : text ≡ 64 ∷ (tag ++ rest)
+  pub is_tag : IsTag tag
+  pub longest : IsLongest IsTag (tag ++ rest) tag
+  pub lower : lang ≡ map to_ascii_lowercase tag
 
 -- blanks, all that there are: the rest begins with none (RDF 1.1 N-Triples 7)
 pub record IsSpaced (text rest : List ℕ) : Type 0 where
@@ -26,44 +57,85 @@ pub record IsSpaced (text rest : List ℕ) : Type 0 where
   pub are_blank : AreAll is_blank blanks
   pub longest : begins is_blank rest ≡ false
 
--- an object: an IRI, or a string as a literal of xsd:string without a tag (RDF 1.1 N-Triples 2.3)
+-- a string with a tag, which has the datatype of such strings (RDF 1.1 N-Triples 2.3)
+pub record IsTagged (text lexical datatype lang rest : List ℕ) : Type 0 where
+  pub behind : List ℕ
+  pub to_tag : List ℕ
+  pub string : IsString text lexical behind
+  pub space : IsSpaced behind to_tag
+  pub tag : IsLang to_tag lang rest
+  pub datatype_is : datatype ≡ lang_string
+
+-- a string with ^^ and a datatype, which is not that of strings with a tag (RDF 1.1 N-Triples 2.3; RDF 1.1 Concepts 3.3)
+pub record IsTyped (text lexical datatype lang rest : List ℕ) : Type 0 where
+  pub behind : List ℕ
+  pub to_sign : List ℕ
+  pub after_sign : List ℕ
+  pub to_iri : List ℕ
+  pub string : IsString text lexical behind
+  pub space : IsSpaced behind to_sign
+  pub sign : to_sign ≡ 94 ∷ 94 ∷ after_sign
+  pub space_behind : IsSpaced after_sign to_iri
+  pub iri : IsIri to_iri datatype rest
+  pub no_tag : lang ≡ []
+  pub other : datatype ≢ lang_string
+
+-- a string alone, which has the datatype of plain strings (RDF 1.1 N-Triples 2.3)
+pub record IsPlain (text lexical datatype lang rest : List ℕ) : Type 0 where
+  pub string : IsString text lexical rest
+  pub datatype_is : datatype ≡ xsd_string
+  pub no_tag : lang ≡ []
+
+-- a literal (RDF 1.1 N-Triples 2.3)
+abbrev pub IsLiteral : List ℕ → List ℕ → List ℕ → List ℕ → List ℕ → Type 0
+IsLiteral text lexical datatype lang rest =
+    IsTagged text lexical datatype lang rest ⊎ IsTyped text lexical datatype lang rest ⊎ IsPlain text lexical datatype lang rest
+
+-- a subject: an IRI or a blank node (RDF 1.1 N-Triples 2.1)
+abbrev pub IsSubject : List ℕ → Term → List ℕ → Type 0
+IsSubject text (terms.Iri iri) rest = IsIri text iri rest
+IsSubject text (terms.Blank label) rest = IsBlankNode text label rest
+IsSubject text (terms.Literal lexical datatype lang) rest = ⊥
+
+-- a predicate: an IRI (RDF 1.1 N-Triples 2.1)
+abbrev pub IsPredicate : List ℕ → Term → List ℕ → Type 0
+IsPredicate text (terms.Iri iri) rest = IsIri text iri rest
+IsPredicate text (terms.Blank label) rest = ⊥
+IsPredicate text (terms.Literal lexical datatype lang) rest = ⊥
+
+-- an object: an IRI, a blank node or a literal (RDF 1.1 N-Triples 2.1)
 abbrev pub IsObject : List ℕ → Term → List ℕ → Type 0
 IsObject text (terms.Iri iri) rest = IsIri text iri rest
-IsObject text (terms.Blank label) rest = ⊥
-IsObject text (terms.Literal lexical datatype lang) rest =
-    IsString text lexical rest × (datatype ≡ xsd_string) × (lang ≡ [])
+IsObject text (terms.Blank label) rest = IsBlankNode text label rest
+IsObject text (terms.Literal lexical datatype lang) rest = IsLiteral text lexical datatype lang rest
 
 -- a subject, a predicate, an object and a dot, with blanks between (RDF 1.1 N-Triples 2.1)
 pub record IsTriple (text : List ℕ) (triple : Triple) (rest : List ℕ) : Type 0 where
-  pub subject : List ℕ
-  pub subject_is : triple.subject ≡ terms.Iri subject
   pub after_subject : List ℕ
-  pub reads_subject : IsIri text subject after_subject
   pub to_predicate : List ℕ
-  pub space_1 : IsSpaced after_subject to_predicate
-  pub predicate : List ℕ
-  pub predicate_is : triple.predicate ≡ terms.Iri predicate
   pub after_predicate : List ℕ
-  pub reads_predicate : IsIri to_predicate predicate after_predicate
   pub to_object : List ℕ
-  pub space_2 : IsSpaced after_predicate to_object
   pub after_object : List ℕ
-  pub reads_object : IsObject to_object triple.object after_object
   pub to_dot : List ℕ
+  pub subject : IsSubject text triple.subject after_subject
+  pub space_1 : IsSpaced after_subject to_predicate
+  pub predicate : IsPredicate to_predicate triple.predicate after_predicate
+  pub space_2 : IsSpaced after_predicate to_object
+  pub object : IsObject to_object triple.object after_object
   pub space_3 : IsSpaced after_object to_dot
-  pub dot : to_dot ≡ codes "." ++ rest
+  pub dot : to_dot ≡ 46 ∷ rest
 
 -- nothing, or a comment, which goes on to the end of the line (RDF 1.1 N-Triples 7)
 abbrev pub IsEnd : List ℕ → Type 0
-IsEnd text = (text ≡ []) ⊎ ((comment : List ℕ) × (text ≡ codes "#" ++ comment))
+IsEnd text = (text ≡ []) ⊎ ((comment : List ℕ) × (text ≡ 35 ∷ comment))
 
 -- a line that spells a triple (RDF 1.1 N-Triples 7, ntriplesDoc)
 pub record IsTripleLine (line : List ℕ) (triple : Triple) : Type 0 where
   pub text : List ℕ
-  pub space : IsSpaced line text
   pub rest : List ℕ
-  pub reads : IsTriple text triple rest
   pub end : List ℕ
+  pub space : IsSpaced line text
+  pub reads : IsTriple text triple rest
   pub last_space : IsSpaced rest end
   pub is_end : IsEnd end
 
@@ -98,9 +170,10 @@ AreLinesOf text [] = ⊥
 AreLinesOf text (line ∷ []) = (text ≡ line) × AreAll is_line line
 AreLinesOf text (line ∷ next ∷ lines) = (rest : List ℕ) × IsEndedLine text line rest × AreLinesOf rest (next ∷ lines)
 
--- a document: UTF-8 whose lines have these triples (RDF 1.1 N-Triples 2)
+-- a document: the UTF-8 of characters whose lines have these triples (RDF 1.1 N-Triples 2)
 pub record IsDocument (bytes : List ℕ) (triples : List Triple) : Type 0 where
-  pub utf8 : IsUtf8 bytes
+  pub characters : List ℕ
+  pub is_text : IsTextOf characters bytes
   pub lines : List (List ℕ)
-  pub are_its : AreLinesOf bytes lines
+  pub are_its : AreLinesOf characters lines
   pub reads : AreLines lines triples

@@ -1,4 +1,5 @@
 pub mod Characters
 pub mod Grammar
 pub mod Limits
+pub mod Faults
 pub mod Reading

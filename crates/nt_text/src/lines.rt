@@ -1,13 +1,15 @@
 //! Lines: cutting a document into them, and reading one.
 
-ghost use Rattle.std.specs.Prelude.{◌≡◌, ◌<◌, ◌↔◌, [], ◌∷◌, length, IsTrue, IfSome};
-ghost use Rattle.std.specs.Option.{option_copied, option_to_list};
-ghost use Rattle.nt_text.specs.Characters.{is_line, front, after};
-ghost use Rattle.nt_text.specs.Limits.{HasShortTerms, AreWithinLimits};
-ghost use Rattle.nt_text.specs.Reading.{Gives, Adds, behind_end, ends, line_at};
+ghost use Rattle.std.specs.Prelude.{◌≡◌, ◌<◌, [], ◌∷◌, Some, length, option_map, IfSome};
+ghost use Rattle.std.specs.Option.{option_to_list};
+ghost use Rattle.std.specs.Str.{chars};
+ghost use Rattle.term_core.specs.Characters.{front, after};
+ghost use Rattle.nt_text.specs.Characters.{is_line};
+ghost use Rattle.nt_text.specs.Reading.{Gives, Becomes, behind_end, ends, line_at, has_short_terms, with_line};
 
+use crate::classes::{Class, skip_blanks, span, split_first};
+use crate::fault::{DataFault, Unread};
 use crate::triples::read_triple;
-use crate::{Class, DataFault, skip_blanks, span};
 use std::alloc::Global;
 use term_core::{Items, Triple, size};
 
@@ -17,35 +19,43 @@ pub const TERM_LIMIT: usize = 262_144;
 /// The greatest number of triples in a document, repeats counted.
 pub const TRIPLE_LIMIT: usize = 4_194_303;
 
-/// The first line, and what is behind its end; None where the line has no end and so is the last
-/// (RDF 1.1 N-Triples, section 7, EOL).
-pub fn cut_line(bytes: &[u8]) -> (&[u8], Option<&[u8]>)
-    ensures line { result.0.now ≡ front is_line bytes.now }
-    ensures behind { option_copied result.1 ≡ behind_end (after is_line bytes.now) }
-    ensures shorter { IfSome result.1 (λ rest. length rest.now < length bytes.now) }
+/// What is behind the line end at the front of a text; None where the text is empty.
+fn skip_end(text: &str) -> Option<&str>
+    ensures behind { option_map (λ rest. chars rest.now) result ≡ behind_end (chars text.now) }
+    ensures shorter { IfSome result (λ rest. length rest.now < length text.now) }
 {
-    let (line, rest) = span(Class::Line, bytes);
-    match rest {
-        [] => (line, None),
-        [b'\r', b'\n', behind @ ..] => (line, Some(behind)),
-        [_, behind @ ..] => (line, Some(behind)),
+    let (first, rest) = split_first(text)?;
+    match split_first(rest) {
+        Some(('\n', behind)) if first == '\r' => Some(behind),
+        _ => Some(rest),
     }
 }
 
-/// Whether a line goes on with nothing but a comment.
-fn is_at_end(bytes: &[u8]) -> bool
-    ensures { result ≡ ends bytes.now }
+/// The first line, and what is behind its end; None where the line has no end and so is the last
+/// (RDF 1.1 N-Triples, section 7, EOL).
+pub fn cut_line(text: &str) -> (&str, Option<&str>)
+    ensures line { chars result.0.now ≡ front is_line (chars text.now) }
+    ensures behind { option_map (λ rest. chars rest.now) result.1 ≡ behind_end (after is_line (chars text.now)) }
+    ensures shorter { IfSome result.1 (λ rest. length rest.now < length text.now) }
 {
-    match bytes {
-        [] => true,
-        [first, ..] => *first == b'#',
+    let (line, rest) = span(Class::Line, text);
+    (line, skip_end(rest))
+}
+
+/// Whether a line goes on with nothing but a comment.
+fn is_at_end(text: &str) -> bool
+    ensures { result ≡ ends (chars text.now) }
+{
+    match split_first(text) {
+        None => true,
+        Some((first, _)) => first == '#',
     }
 }
 
 /// The triple of a line, None where the line has no triple.
 #[tactic(auto, unfolding(crate::specs::Reading::line_at))]
-fn read_line(alloc: Global, line: &[u8]) -> Result<Option<Triple>, DataFault>
-    ensures { Gives option_to_list result (line_at line.now) }
+fn read_line(alloc: Global, line: &str) -> Result<Option<Triple>, Unread>
+    ensures { Gives option_to_list result (line_at (chars line.now)) }
 {
     let text = skip_blanks(line);
     if is_at_end(text) {
@@ -55,48 +65,48 @@ fn read_line(alloc: Global, line: &[u8]) -> Result<Option<Triple>, DataFault>
     if is_at_end(skip_blanks(rest)) {
         Ok(Some(triple))
     } else {
-        Err(DataFault::Form)
+        Err(Unread::Form)
     }
 }
 
 /// Whether each term is at most `TERM_LIMIT` bytes.
 fn has_short_terms(triple: &Triple) -> bool
-    ensures { IsTrue result ↔ HasShortTerms triple.now }
+    ensures { result ≡ has_short_terms triple.now }
 {
     size(&triple.subject) <= TERM_LIMIT
         && size(&triple.predicate) <= TERM_LIMIT
         && size(&triple.object) <= TERM_LIMIT
 }
 
-/// Whether the triples are fewer than `TRIPLE_LIMIT`.
-fn has_room(triples: &Items<Triple>) -> bool
-    ensures { IsTrue result ↔ (length triples.now < 4194303) }
+/// Adds a triple, which stands in the line of that number, if the limits allow it.
+fn add_triple(triple: Triple, number: u64, triples: &mut Items<Triple>) -> Result<(), DataFault>
+    ensures { Becomes result triples.new (with_line number triples.old (Some (triple ∷ []))) }
 {
-    triples.len() < TRIPLE_LIMIT
-}
-
-/// Reads a line, and adds its triple if it has one and the limits allow it.
-pub fn add_line(alloc: Global, line: &[u8], triples: &mut Items<Triple>) -> Result<(), DataFault>
-    requires { AreWithinLimits triples.old }
-    ensures { Adds result (line_at line.now) triples.old triples.new }
-{
-    match read_line(alloc, line) {
-        Ok(None) => Ok(()),
-        Ok(Some(triple)) => add_triple(triple, triples),
-        Err(fault) => Err(fault),
+    if !has_short_terms(&triple) {
+        return Err(DataFault::TermTooLong { line: number });
     }
-}
-
-/// Adds a triple if the limits allow it.
-fn add_triple(triple: Triple, triples: &mut Items<Triple>) -> Result<(), DataFault>
-    requires { AreWithinLimits triples.old }
-    ensures { Adds result (Some (triple ∷ [])) triples.old triples.new }
-{
-    if !has_room(triples) || !has_short_terms(&triple) {
-        return Err(DataFault::Form);
+    if triples.len() >= TRIPLE_LIMIT {
+        return Err(DataFault::TooMany { line: number });
     }
     match triples.push(triple) {
         Ok(()) => Ok(()),
         Err(_) => Err(DataFault::Memory),
+    }
+}
+
+/// Reads the line of that number, and adds its triple if it has one and the limits allow it.
+pub fn add_line(
+    alloc: Global,
+    line: &str,
+    number: u64,
+    triples: &mut Items<Triple>,
+) -> Result<(), DataFault>
+    ensures { Becomes result triples.new (with_line number triples.old (line_at (chars line.now))) }
+{
+    match read_line(alloc, line) {
+        Ok(None) => Ok(()),
+        Ok(Some(triple)) => add_triple(triple, number, triples),
+        Err(Unread::Form) => Err(DataFault::BadLine { line: number }),
+        Err(Unread::Memory) => Err(DataFault::Memory),
     }
 }

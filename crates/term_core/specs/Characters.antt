@@ -1,6 +1,7 @@
 -- Classes of characters, as Unicode scalar values (SPARQL 1.1 19.8, RDF 1.1 N-Triples 7).
-use Rattle.std.specs.Prelude.{◌≡◌, ℕ, Bool, true, ◌&&◌, ◌||◌, not, codes, ◌==◌, nat_lt, nat_le, List, [], ◌∷◌}
+use Rattle.std.specs.Prelude.{◌≡◌, ℕ, Bool, true, false, ◌&&◌, ◌||◌, not, codes, ◌==◌, nat_lt, nat_le, List, [], ◌∷◌, if◌then◌else◌}
 use Rattle.std.specs.List.{list_all, list_any}
+use Rattle.std.specs.Str.{all_scalars, encode_utf8_all}
 
 -- one of these
 abbrev pub is_among : List ℕ → ℕ → Bool
@@ -58,3 +59,23 @@ is_plain c = not (is_among (codes "\"\\\n\r") c)
 -- all of the class
 abbrev pub AreAll : (ℕ → Bool) → List ℕ → Type 0
 AreAll p text = list_all p text ≡ true
+
+-- the longest front that is all of the class
+abbrev pub front : (ℕ → Bool) → List ℕ → List ℕ
+front p [] = []
+front p (c ∷ text) = if p c then c ∷ front p text else []
+
+-- what is behind that front
+abbrev pub after : (ℕ → Bool) → List ℕ → List ℕ
+after p [] = []
+after p (c ∷ text) = if p c then after p text else c ∷ text
+
+-- the first character passes the test
+abbrev pub begins : (ℕ → Bool) → List ℕ → Bool
+begins p [] = false
+begins p (c ∷ text) = p c
+
+-- the bytes are the UTF-8 of these characters (Unicode, definition D92)
+pub record IsTextOf (characters bytes : List ℕ) : Type 0 where
+  pub scalars : all_scalars characters ≡ true
+  pub encoded : encode_utf8_all characters ≡ bytes

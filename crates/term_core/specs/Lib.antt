@@ -8,3 +8,4 @@ pub mod Texts
 pub mod Characters
 pub mod Escapes
 pub mod Names
+pub mod Spelling

@@ -1,6 +1,15 @@
--- Labels of blank nodes and language tags, as lists of characters (RDF 1.1 N-Triples 7; SPARQL 1.1 19.8).
-use Rattle.std.specs.Prelude.{◌≡◌, ◌≢◌, ◌++◌, ℕ, Bool, true, ◌||◌, ◌==◌, List, [], ◌∷◌}
-use Rattle.term_core.specs.Characters.{is_letter, is_digit, is_pn, is_pn_u, AreAll}
+-- Schemes of IRIs, labels of blank nodes and language tags, as lists of characters (RDF 1.1 N-Triples 7; SPARQL 1.1 19.8).
+use Rattle.std.specs.Prelude.{◌≡◌, ◌≢◌, ◌++◌, ℕ, Bool, true, false, codes, ◌&&◌, ◌||◌, ◌==◌, List, [], ◌∷◌}
+use Rattle.term_core.specs.Characters.{is_among, is_letter, is_digit, is_pn, is_pn_u, after, begins, AreAll}
+
+-- a letter, a digit, + - or . (RFC 3986 3.1, scheme)
+abbrev pub is_scheme : ℕ → Bool
+is_scheme c = is_letter c || is_digit c || is_among (codes "+-.") c
+
+-- a letter, then letters, digits, + - and . up to a colon (RFC 3986 3.1, scheme)
+abbrev pub has_scheme : List ℕ → Bool
+has_scheme [] = false
+has_scheme (c ∷ text) = is_letter c && begins (λ d. d == 58) (after is_scheme text)
 
 -- nothing, or characters of the class and dots, of which the last is no dot
 abbrev pub IsDotted : (ℕ → Bool) → List ℕ → Type 0

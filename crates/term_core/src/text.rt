@@ -1,6 +1,6 @@
 //! Text that contracts see as the list of its UTF-8 bytes.
 
-ghost use Rattle.std.specs.Prelude.{◌≡◌, IfOk, IsUtf8, IsTrue, ℕ, false};
+ghost use Rattle.std.specs.Prelude.{◌≡◌, IfOk, IsUtf8, IsTrue, ℕ, false, string_bytes};
 ghost use Rattle.std.specs.Str.{is_utf8};
 ghost use Rattle.std.specs.Str.Lossy.{utf8_valid_len};
 ghost use Rattle.term_core.specs.declared.text.TextFault.TheVariants.{NotUtf8};
@@ -67,6 +67,22 @@ impl Text {
                 at: e.valid_up_to(),
             }),
         }
+    }
+
+    /// The text of a string, which is taken and not copied.
+    pub fn from_string(text: String) -> Text
+        ensures { result ≡ string_bytes text }
+    {
+        Text { text }
+    }
+
+    /// Copies a string slice into a text of its own.
+    pub fn from_str(alloc: Global, text: &str) -> Result<Text, Memory>
+        ensures { IfOk result (λ t. t ≡ text.now) }
+    {
+        Ok(Text {
+            text: String::from_str(alloc, text)?,
+        })
     }
 
     /// The bytes of the text, in order.

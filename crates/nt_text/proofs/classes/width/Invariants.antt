@@ -1,6 +1,7 @@
 use Rattle.std.proofs.Common.{◌≡◌, ◌++◌, take, drop}
-use Rattle.nt_text.specs.Characters.{is_in, front, after}
-use Rattle.nt_text.proofs.classes.span.Given as goal
+use Rattle.term_core.specs.Characters.{front, after}
+use Rattle.nt_text.specs.Characters.{is_in}
+use Rattle.nt_text.proofs.classes.width.Given as goal
 
 abbrev pub invariant-loop-i : goal.invariant-loop-i
 invariant-loop-i l = record {
