@@ -1,9 +1,9 @@
 -- Where a text is cut: between characters, and by a class that holds all or none of the characters from U+0080 on.
-use Rattle.std.proofs.Common.{◌≡◌, ℕ, ◌<◌, ◌≤◌, ◌+◌, ◌-◌, Bool, true, false, ◌&&◌, List, [], ◌∷◌, ◌++◌, cond, get_or, length, take, drop, inl, inr, ◌⊎◌, Some, refl, sym, ap, subst, ◌∙◌, arith, not}
+use Rattle.std.proofs.Common.{◌≡◌, ℕ, ◌<◌, ◌≤◌, ◌+◌, ◌-◌, Bool, true, false, ◌&&◌, List, [], ◌∷◌, ◌++◌, cond, get_or, length, take, drop, inl, inr, ◌⊎◌, Some, eqb, refl, sym, ap, subst, ◌∙◌, arith, not}
 use Rattle.std.proofs.Math.Utf8.{encode}
 use Rattle.std.specs.Str.{IsUtf8, IsCharBoundary, chars, all_scalars, encode_utf8_all}
 use Rattle.std.specs.List.{list_all, slice_range}
-use Rattle.std.proofs.lemmas.Bool.{cases_lt}
+use Rattle.std.proofs.lemmas.Bool.{cases_lt, not-true}
 use Rattle.std.proofs.lemmas.List.{append-nil, length-append}
 use Rattle.std.proofs.lemmas.Bool.Decides.{nat_tests}
 use native.Mathlib.Numerals.{unary_clauses}
@@ -11,7 +11,8 @@ use Rattle.std.proofs.Math.Seq.{take-append_seam, drop-append_seam}
 use Rattle.std.proofs.lemmas.List.Elements.{All-from_get_or}
 use Rattle.std.proofs.lemmas.List.Sums.{list_all-from_AllPass}
 use Rattle.std.proofs.lemmas.Str.{encode_ascii, inside_one, IsCharBoundary-from_rest, IsCharBoundary-start, length-encode, len_utf8_bounds, chars_past_char, encodes-append, encodes-chars, scalars-chars, chars-encodes}
-use Rattle.term_core.specs.Characters.{front, after}
+use Rattle.term_core.specs.Characters.{is_letter, front, after, begins}
+use Rattle.term_core.specs.Names.{is_scheme, has_scheme}
 use Rattle.nt_text.specs.declared.classes.Class.{Class}
 use Rattle.nt_text.specs.declared.classes.Class.TheVariants as classes
 use Rattle.nt_text.specs.Characters.{is_in}
@@ -208,3 +209,43 @@ class_is_flat classes.Line = (true, λ c large. grind (arith, nat_tests))
 -- a text cut by a class of the code
 pub class_cut : (class : Class) (bytes : List ℕ) (n : ℕ) → IsUtf8 bytes → n ≤ length bytes → take n bytes ≡ front (is_in class) bytes → drop n bytes ≡ after (is_in class) bytes → IsCut (is_in class) bytes n
 class_cut class bytes n utf8 fits taken left = cut_by (is_in class) (class_is_flat class).0 (class_is_flat class).1 bytes n utf8 fits taken left
+
+-- ---- schemes
+
+-- the first byte of a character that is not ASCII is none of ASCII
+wide_first : (p : ℕ → Bool) → IsFlat p false → (c : ℕ) (bytes : List ℕ) → 128 ≤ c → begins p (encode c ++ bytes) ≡ false
+wide_first p flat c bytes large =
+    let begun = encode_begun c in
+    let none : list_all (λ d. not (p d)) (encode c) ≡ true = wide_bytes (λ d. not (p d)) (λ d high. ap not (flat d high)) c large in
+    let first = (all_rest (λ d. not (p d)) begun.0 begun.1 (ap (list_all (λ d. not (p d))) (sym begun.2) ∙ none)).0 in
+    ap (λ bs. begins p (bs ++ bytes)) begun.2 ∙ not-true (p begun.0) first
+
+-- a test of ASCII holds of the first byte where it holds of the first character
+begins_encoded : (p : ℕ → Bool) → IsFlat p false → (cs : List ℕ) → begins p (encode_utf8_all cs) ≡ begins p cs
+begins_encoded p flat [] = refl
+begins_encoded p flat (c ∷ cs) = elim (cases_lt c 128) [
+  | inl small ↦ ap (λ bs. begins p (bs ++ encode_utf8_all cs)) (encode_ascii c small)
+  | inr large ↦ wide_first p flat c (encode_utf8_all cs) large ∙ sym (flat c large)
+]
+
+scheme_flat : IsFlat is_scheme false
+scheme_flat c large = grind (arith, nat_tests)
+
+letter_flat : IsFlat is_letter false
+letter_flat c large = grind (arith, nat_tests)
+
+colon_flat : IsFlat (λ d. eqb d 58) false
+colon_flat d large = grind (arith, nat_tests)
+
+-- a text has a scheme where its bytes have one
+pub scheme_encoded : (cs : List ℕ) → has_scheme (encode_utf8_all cs) ≡ has_scheme cs
+scheme_encoded [] = refl
+scheme_encoded (c ∷ cs) = elim (cases_lt c 128) [
+  | inl small ↦ ap (λ bs. has_scheme (bs ++ encode_utf8_all cs)) (encode_ascii c small)
+      ∙ ap (λ t. is_letter c && t) (ap (begins (λ d. eqb d 58)) (matches is_scheme false scheme_flat cs).left ∙ begins_encoded (λ d. eqb d 58) colon_flat (after is_scheme cs))
+  | inr large ↦ no_scheme (encode c ++ encode_utf8_all cs) (wide_first is_letter letter_flat c (encode_utf8_all cs) large) ∙ sym (ap (λ t. t && begins (λ d. eqb d 58) (after is_scheme cs)) (letter_flat c large))
+]
+  where
+    no_scheme : (bytes : List ℕ) → begins is_letter bytes ≡ false → has_scheme bytes ≡ false
+    no_scheme [] h = refl
+    no_scheme (b ∷ bytes) h = ap (λ t. t && begins (λ d. eqb d 58) (after is_scheme bytes)) h

@@ -4,3 +4,11 @@ pub mod Cuts
 pub mod Spelled
 pub mod Suffix
 pub mod Documents
+pub mod EscapeLaws
+pub mod SpelledLaws
+pub mod NameLaws
+pub mod TagLaws
+pub mod TermLaws
+pub mod LineLaws
+pub mod Judged
+pub mod SpelledTerms
