@@ -350,3 +350,29 @@ why bytes (Err (faults.BadLine n)) is = (subst (IsJudgement bytes) is (document_
 why bytes (Err (faults.TermTooLong n)) is = (subst (IsJudgement bytes) is (document_is bytes)).0
 why bytes (Err (faults.TooMany n)) is = (subst (IsJudgement bytes) is (document_is bytes)).0
 why bytes (Err faults.Memory) is = tt
+
+-- ---- one answer
+
+line_same : (line : List ℕ) (ts us : List Triple) → IsLine line ts → IsLine line us → ts ≡ us
+line_same line ts us h k = some_is ts us (sym (line_complete line ts h) ∙ line_complete line us k)
+
+same_lines : (lines : List (List ℕ)) (ts us : List Triple) → AreLines lines ts → AreLines lines us → ts ≡ us
+same_lines [] ts us h k = h ∙ sym k
+same_lines (line ∷ lines) ts us (a, b, is, here, more) (c, d, same, there, others) =
+    is ∙ (λ i. line_same line a c here there i ++ same_lines lines b d more others i) ∙ sym same
+
+-- a document has one list of triples, within the limits or not
+pub one_list : (bytes : List ℕ) (ts us : List Triple) → IsDocument bytes ts → IsDocument bytes us → ts ≡ us
+one_list bytes ts us h k = same_lines h.lines ts us h.reads (subst (λ ls. AreLines ls us) lines_same k.reads)
+  where
+    lines_same : k.lines ≡ h.lines
+    lines_same = sym (lines_unique k.lines k.characters k.are_its) ∙ ap lines_of (sym (its_characters k.characters bytes k.is_text) ∙ its_characters h.characters bytes h.is_text) ∙ lines_unique h.lines h.characters h.are_its
+
+pub one_cause : (bytes : List ℕ) (f g : DataFault) → f ≢ faults.Memory → g ≢ faults.Memory → WhyRefused bytes f → WhyRefused bytes g → f ≡ g
+one_cause bytes f g some_f some_g h k = err_is f g (sym (document_unique bytes (Err f) (h, some_f)) ∙ document_unique bytes (Err g) (k, some_g))
+
+pub no_both : (bytes : List ℕ) (ts : List Triple) (f : DataFault) → f ≢ faults.Memory → IsDocument bytes ts → IsWithinLimits bytes ts → WhyRefused bytes f → ⊥
+no_both bytes ts f some h within k = apart (sym (document_unique bytes (Ok ts) (h, within)) ∙ document_unique bytes (Err f) (k, some))
+  where
+    apart : (let r : Outcome = Ok ts in r ≡ Err f) → ⊥
+    apart e = absurd cc

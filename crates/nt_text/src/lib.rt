@@ -5,8 +5,11 @@ mod classes;
 mod document;
 mod escapes;
 mod fault;
+pub mod law;
 mod lines;
 mod terminals;
+#[cfg(test)]
+mod tests;
 mod triples;
 
 pub use document::{DOCUMENT_LIMIT, read_document};
