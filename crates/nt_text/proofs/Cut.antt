@@ -181,7 +181,7 @@ pub record IsBefore (text rest : List ℕ) : Type 0 where
 pub cut_before : (text rest front : List ℕ) → IsUtf8 text → IsUtf8 rest → chars text ≡ front ++ chars rest → IsBefore text rest
 cut_before text rest front utf8_text utf8_rest e =
     let whole : text ≡ encode_utf8_all front ++ rest =
-        sym (encodes-chars text utf8_text) ∙ ap encode_utf8_all e ∙ encodes-append front (chars rest) ∙ ap (λ bs. encode_utf8_all front ++ bs) (encodes-chars rest utf8_rest) in
+    sym (encodes-chars text utf8_text) ∙ ap encode_utf8_all e ∙ encodes-append front (chars rest) ∙ ap (λ bs. encode_utf8_all front ++ bs) (encodes-chars rest utf8_rest) in
     let lengths : length text ≡ length (encode_utf8_all front) + length rest = ap length whole ∙ length-append (encode_utf8_all front) rest in
     let place : length text - length rest ≡ length (encode_utf8_all front) = omega (arith, lengths) in
     let behind : drop (length text - length rest) text ≡ rest = ap (λ n. drop n text) place ∙ ap (drop (length (encode_utf8_all front))) whole ∙ drop-append_seam (encode_utf8_all front) rest in

@@ -27,7 +27,7 @@ pub next_line : (number : ℕ) (old new : List Triple) (text line : List ℕ) (b
 next_line number old new text line behind total line_is behind_is read so_far =
     let here : with_line number old (line_at (front is_line text)) ≡ Ok new = ap (λ l. with_line number old (line_at l)) (sym line_is) ∙ read in
     let step : judged number old (lines_of text) ≡ judged (number + 1) new (lines_left (behind_end (after is_line text))) =
-        judged_cut number old text ∙ ap (λ r. unless_refused r (λ all. judged (number + 1) all (lines_left (behind_end (after is_line text))))) here in
+    judged_cut number old text ∙ ap (λ r. unless_refused r (λ all. judged (number + 1) all (lines_left (behind_end (after is_line text))))) here in
     ap (λ b. judged (number + 1) new (lines_left b)) behind_is ∙ sym step ∙ so_far
 
 -- or a line is refused, and all with it

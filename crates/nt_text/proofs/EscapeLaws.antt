@@ -162,7 +162,7 @@ eight_read digits rest eight hex =
     let halves = all_front is_hex high low (ap (list_all is_hex) whole ∙ hex) in
     let text : digits ++ rest ≡ high ++ (low ++ rest) = ap (λ ds. ds ++ rest) (sym whole) ∙ append_assoc high low rest in
     let number : hex_number high * 65536 + hex_number low ≡ hex_number digits =
-        sym (hex_onto-four (hex_number high) low low_four) ∙ sym (hex_onto-append 0 high low) ∙ ap hex_number whole in
+    sym (hex_onto-four (hex_number high) low low_four) ∙ sym (hex_onto-append 0 high low) ∙ ap hex_number whole in
     ap (λ t. four_at t >>= λ a. four_at a.1 >>= λ b. eight_of a b) text
     ∙ rw (four_read high (low ++ rest) high_four halves.0, four_read low rest low_four halves.1) (ap (λ n. Some (n, rest)) number)
 
@@ -200,27 +200,33 @@ short_sound : (text : List ℕ) (c : ℕ) (rest : List ℕ) → (four_at text >>
 short_sound text c rest e =
     let a = bind_some (four_at text) scalar_of (c, rest) e in
     let s = scalar_some a.0 c rest a.2 in
-    let p = four_sound text a.0.0 a.0.1 a.1 in
-    (92 ∷ 117 ∷ p.digits, ap (λ t. 92 ∷ 117 ∷ t) (p.spelled ∙ ap (λ r. p.digits ++ r) s.2), record {
-      digits = p.digits;
-      spelled = inl (refl, p.four);
-      are_hex = p.hex;
-      value = sym s.1 ∙ p.value;
-      scalar = s.0;
-    })
+    let p = four_sound text a.0.0 a.0.1 a.1 in (
+      92 ∷ 117 ∷ p.digits,
+      ap (λ t. 92 ∷ 117 ∷ t) (p.spelled ∙ ap (λ r. p.digits ++ r) s.2),
+      record {
+        digits = p.digits;
+        spelled = inl (refl, p.four);
+        are_hex = p.hex;
+        value = sym s.1 ∙ p.value;
+        scalar = s.0;
+      },
+    )
 
 long_sound : (text : List ℕ) (c : ℕ) (rest : List ℕ) → (eight_at text >>= scalar_of) ≡ Some (c, rest) → IsRead IsUchar (92 ∷ 85 ∷ text) c rest
 long_sound text c rest e =
     let a = bind_some (eight_at text) scalar_of (c, rest) e in
     let s = scalar_some a.0 c rest a.2 in
-    let p = eight_sound text a.0.0 a.0.1 a.1 in
-    (92 ∷ 85 ∷ p.digits, ap (λ t. 92 ∷ 85 ∷ t) (p.spelled ∙ ap (λ r. p.digits ++ r) s.2), record {
-      digits = p.digits;
-      spelled = inr (refl, p.eight);
-      are_hex = p.hex;
-      value = sym s.1 ∙ p.value;
-      scalar = s.0;
-    })
+    let p = eight_sound text a.0.0 a.0.1 a.1 in (
+      92 ∷ 85 ∷ p.digits,
+      ap (λ t. 92 ∷ 85 ∷ t) (p.spelled ∙ ap (λ r. p.digits ++ r) s.2),
+      record {
+        digits = p.digits;
+        spelled = inr (refl, p.eight);
+        are_hex = p.hex;
+        value = sym s.1 ∙ p.value;
+        scalar = s.0;
+      },
+    )
 
 uchar_sound : (letter : ℕ) (text : List ℕ) (c : ℕ) (rest : List ℕ) → uchar_by letter text ≡ Some (c, rest) → IsRead IsUchar (92 ∷ letter ∷ text) c rest
 uchar_sound letter text c rest e = by_u (eqb letter 117) refl e
@@ -275,14 +281,23 @@ escape_sound q text c rest e =
 scalar_read : (n : ℕ) (rest : List ℕ) → IsScalar n → scalar_of (n, rest) ≡ Some (n, rest)
 scalar_read n rest h = rw (is_scalar_from n h) refl
 
-
 uchar_complete : (escape : List ℕ) (c : ℕ) (rest : List ℕ) → IsUchar escape c
     → (letter : ℕ) × (text : List ℕ) × (escape ++ rest ≡ 92 ∷ letter ∷ text) × (uchar_by letter text ≡ Some (c, rest)) × (echar_value letter ≡ None)
 uchar_complete escape c rest h = elim h.spelled [
-  | inl short ↦ (117, h.digits ++ rest, ap (λ e. e ++ rest) short.0,
-      rw (four_read h.digits rest short.1 h.are_hex, ← h.value) (scalar_read c rest h.scalar), refl)
-  | inr long ↦ (85, h.digits ++ rest, ap (λ e. e ++ rest) long.0,
-      rw (eight_read h.digits rest long.1 h.are_hex, ← h.value) (scalar_read c rest h.scalar), refl)
+  | inl short ↦ (
+    117,
+    h.digits ++ rest,
+    ap (λ e. e ++ rest) short.0,
+    rw (four_read h.digits rest short.1 h.are_hex, ← h.value) (scalar_read c rest h.scalar),
+    refl,
+  )
+  | inr long ↦ (
+    85,
+    h.digits ++ rest,
+    ap (λ e. e ++ rest) long.0,
+    rw (eight_read h.digits rest long.1 h.are_hex, ← h.value) (scalar_read c rest h.scalar),
+    refl,
+  )
 ]
 
 -- reading an escape from its backslash and its letter
@@ -305,8 +320,8 @@ pub escape_begins : (q : Quoted) (escape : List ℕ) (c : ℕ) → IsEscapeIn q 
 escape_begins quoted.Iri escape c h = uchar_begins escape c h.uchar
   where
     uchar_begins : (escape : List ℕ) (c : ℕ) → IsUchar escape c → (text : List ℕ) × (escape ≡ 92 ∷ text)
-    uchar_begins escape c h = elim h.spelled [ | inl short ↦ (117 ∷ h.digits, short.0) | inr long ↦ (85 ∷ h.digits, long.0) ]
-escape_begins quoted.String escape c (inl h) = elim h.spelled [ | inl short ↦ (117 ∷ h.digits, short.0) | inr long ↦ (85 ∷ h.digits, long.0) ]
+    uchar_begins escape c h = elim h.spelled [ inl short ↦ (117 ∷ h.digits, short.0) | inr long ↦ (85 ∷ h.digits, long.0) ]
+escape_begins quoted.String escape c (inl h) = elim h.spelled [ inl short ↦ (117 ∷ h.digits, short.0) | inr long ↦ (85 ∷ h.digits, long.0) ]
 escape_begins quoted.String escape c (inr h) = (h.letter ∷ [], h.spelled)
 
 -- where no backslash stands, no escape begins

@@ -60,9 +60,10 @@ within_more ts t within short room = record {
 
 -- what is within the limits with one triple more: that one is short, and there was room
 last_short : (ts : List Triple) (t : Triple) → AreWithinLimits (ts ++ t ∷ []) → HasShortTerms t × (length ts < 4194303)
-last_short ts t within =
-    (All-head HasShortTerms t [] (subst (All HasShortTerms) (drop-append_seam ts (t ∷ [])) (All-drop HasShortTerms (length ts) (ts ++ t ∷ []) within.terms)),
-    omega (arith, length-append ts (t ∷ []), within.number))
+last_short ts t within = (
+  All-head HasShortTerms t [] (subst (All HasShortTerms) (drop-append_seam ts (t ∷ [])) (All-drop HasShortTerms (length ts) (ts ++ t ∷ []) within.terms)),
+  omega (arith, length-append ts (t ∷ []), within.number),
+)
 
 -- ---- one line
 
@@ -205,7 +206,7 @@ judged_front number old (line ∷ before) ts more (first, others, same, is, are)
     let whole : old ++ ts ≡ (old ++ first) ++ others = ap (λ us. old ++ us) same ∙ sym (append_assoc old first others) in
     let fits : AreWithinLimits ((old ++ first) ++ others) = subst AreWithinLimits whole within in
     let here : with_line number old (line_at line) ≡ Ok (old ++ first) =
-        with_line_unique number old line (Ok (old ++ first)) (within_front old first (within_front (old ++ first) others fits)) (first, is, refl, λ w. within_front (old ++ first) others fits) in
+    with_line_unique number old line (Ok (old ++ first)) (within_front old first (within_front (old ++ first) others fits)) (first, is, refl, λ w. within_front (old ++ first) others fits) in
     let count : (number + 1) + length before ≡ number + length (line ∷ before) = omega arith in
     ap (λ r. unless_refused r (λ all. judged (number + 1) all (before ++ more))) here
     ∙ judged_front (number + 1) (old ++ first) before others more are fits ∙ (λ i. judged (count i) (sym whole i) more)
@@ -262,9 +263,10 @@ text_of : (bytes : List ℕ) → IsUtf8 bytes → IsTextOf (chars bytes) bytes
 text_of bytes utf8 = record { scalars = scalars-chars bytes utf8; encoded = encodes-chars bytes utf8 }
 
 by_lines : (bytes : List ℕ) (r : Outcome) → length bytes ≤ 268435456 → IsUtf8 bytes → AreJudged 1 [] (lines_of (chars bytes)) r → IsJudgement bytes r
-by_lines bytes (Ok all) fits utf8 (ts, are, same, within) =
-    (record { characters = chars bytes; is_text = text_of bytes utf8; lines = lines_of (chars bytes); are_its = lines_exist (chars bytes); reads = subst (AreLines (lines_of (chars bytes))) (sym same) are },
-    record { bytes_fit = fits; triples_fit = within })
+by_lines bytes (Ok all) fits utf8 (ts, are, same, within) = (
+  record { characters = chars bytes; is_text = text_of bytes utf8; lines = lines_of (chars bytes); are_its = lines_exist (chars bytes); reads = subst (AreLines (lines_of (chars bytes))) (sym same) are },
+  record { bytes_fit = fits; triples_fit = within },
+)
 by_lines bytes (Err fault) fits utf8 h = refused_at bytes (chars bytes) (lines_of (chars bytes)) fault fits (text_of bytes utf8) (lines_exist (chars bytes)) h
 
 document_is : (bytes : List ℕ) → IsJudgement bytes (document_of bytes)

@@ -142,10 +142,10 @@ pub gone_on : (q : Quoted) (left behind rest whole before mid held bytes : List 
 gone_on q left behind rest whole before mid held bytes c utf8 escape plain after_is mid_is held_is so_far =
     let step : tail_at q left ≡ onto (c ∷ front (plain_in q) behind) (tail_at q (after (plain_in q) behind)) = tail_step q left c behind escape in
     let read : encode_utf8_all (tail_at q left).0 ≡ encode c ++ (bytes ++ encode_utf8_all (tail_at q rest).0) =
-        ap (λ r. encode_utf8_all r.0) step
-        ∙ ap (λ bs. encode c ++ bs) (encodes-append (front (plain_in q) behind) (tail_at q (after (plain_in q) behind)).0
-        ∙ (λ i. encode_utf8_all (sym plain i) ++ encode_utf8_all (tail_at q (sym after_is i)).0)
-        ∙ ap (λ bs. bs ++ encode_utf8_all (tail_at q rest).0) (encodes-chars bytes utf8)) in
+    ap (λ r. encode_utf8_all r.0) step
+    ∙ ap (λ bs. encode c ++ bs) (encodes-append (front (plain_in q) behind) (tail_at q (after (plain_in q) behind)).0
+    ∙ (λ i. encode_utf8_all (sym plain i) ++ encode_utf8_all (tail_at q (sym after_is i)).0)
+    ∙ ap (λ bs. bs ++ encode_utf8_all (tail_at q rest).0) (encodes-chars bytes utf8)) in
     ap (λ bs. bs ++ encode_utf8_all (tail_at q rest).0) (held_is ∙ ap (λ bs. bs ++ bytes) mid_is)
     ∙ append_assoc (before ++ encode c) bytes (encode_utf8_all (tail_at q rest).0) ∙ append_assoc before (encode c) (bytes ++ encode_utf8_all (tail_at q rest).0)
     ∙ ap (λ bs. before ++ bs) (sym read) ∙ so_far

@@ -29,10 +29,11 @@ spelled_sound_in : (room : ℕ) (q : Quoted) (text : List ℕ) → IsSpelledBy q
 unfolding spelled_in
 spelled_sound_in zero q text = ([], refl, nothing)
 spelled_sound_in (suc room) q text =
-    let rest = on_escape q (after (plain_in q) text) (spelled_in room q) (escape_at q (after (plain_in q) text)) refl (spelled_sound_in room q) in
-    (front (plain_in q) text ++ rest.0,
-    sym (parts (plain_in q) text) ∙ ap (λ t. front (plain_in q) text ++ t) rest.1 ∙ sym (append_assoc (front (plain_in q) text) rest.0 _),
-    plain_before q (front (plain_in q) text) rest.0 _ (passes (plain_in q) text) rest.2)
+    let rest = on_escape q (after (plain_in q) text) (spelled_in room q) (escape_at q (after (plain_in q) text)) refl (spelled_sound_in room q) in (
+      front (plain_in q) text ++ rest.0,
+      sym (parts (plain_in q) text) ∙ ap (λ t. front (plain_in q) text ++ t) rest.1 ∙ sym (append_assoc (front (plain_in q) text) rest.0 _),
+      plain_before q (front (plain_in q) text) rest.0 _ (passes (plain_in q) text) rest.2,
+    )
   where
     on_escape : (q : Quoted) (text : List ℕ) (go : List ℕ → List ℕ × List ℕ) (o : Option (ℕ × List ℕ)) → escape_at q text ≡ o → ((rest : List ℕ) → IsSpelledBy q rest (go rest)) → IsSpelledBy q text (spelled_on go text o)
     on_escape q text go None e more = ([], refl, nothing)

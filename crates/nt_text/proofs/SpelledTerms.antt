@@ -87,13 +87,15 @@ iri_parts : (text iri rest : List ℕ) → IsScalars text → IsIri text iri res
 iri_parts text iri rest scalars h =
     let a = scalars_of text (60 ∷ []) (h.body ++ 62 ∷ rest) h.spelled scalars in
     let b = scalars_front h.body (62 ∷ rest) a.1 in
-    let c = scalars_parts 62 rest b.1 in
-    (record {
-      characters = h.characters;
-      is_text = record { scalars = spelled_scalars (λ e c is. is.uchar.scalar) b.0 h.reads; encoded = sym h.bytes };
-      of_class = spelled_class (λ e c is. is.allowed) h.reads;
-      scheme = h.scheme;
-    }, c.1)
+    let c = scalars_parts 62 rest b.1 in (
+      record {
+        characters = h.characters;
+        is_text = record { scalars = spelled_scalars (λ e c is. is.uchar.scalar) b.0 h.reads; encoded = sym h.bytes };
+        of_class = spelled_class (λ e c is. is.allowed) h.reads;
+        scheme = h.scheme;
+      },
+      c.1,
+    )
 
 string_parts : (text lexical rest : List ℕ) → IsScalars text → IsString text lexical rest → IsUtf8 lexical × IsScalars rest
 string_parts text lexical rest scalars h =
@@ -156,11 +158,13 @@ lower_twice (c ∷ text) = λ i. lower_once c i ∷ lower_twice text i
 lang_parts : (text lang rest : List ℕ) → IsScalars text → IsLang text lang rest → IsSpelledTag lang × IsScalars rest
 lang_parts text lang rest scalars h =
     let a = scalars_of text (64 ∷ []) (h.tag ++ rest) h.spelled scalars in
-    let b = scalars_front h.tag rest a.1 in
-    (record {
-      is_tag = subst IsTag (sym h.lower) (lower_tag h.tag h.is_tag);
-      lower = ap (map to_ascii_lowercase) h.lower ∙ lower_twice h.tag ∙ sym h.lower;
-    }, b.1)
+    let b = scalars_front h.tag rest a.1 in (
+      record {
+        is_tag = subst IsTag (sym h.lower) (lower_tag h.tag h.is_tag);
+        lower = ap (map to_ascii_lowercase) h.lower ∙ lower_twice h.tag ∙ sym h.lower;
+      },
+      b.1,
+    )
 
 -- ---- literals and triples
 

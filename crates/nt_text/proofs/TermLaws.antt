@@ -235,14 +235,14 @@ literal_complete text lexical datatype lang rest (inl h) stop =
     let space = skipped h.behind h.to_tag h.space in
     let l = lang_complete h.to_tag lang rest h.tag in
     let there : literal_by lexical h.behind h.to_tag ≡ Some (terms.Literal lexical lang_string lang, rest) =
-        ap (literal_by lexical h.behind) h.tag.spelled ∙ rw (ap lang_at (sym h.tag.spelled) ∙ l) refl in
+    ap (literal_by lexical h.behind) h.tag.spelled ∙ rw (ap lang_at (sym h.tag.spelled) ∙ l) refl in
     rw (s, space, there, h.datatype_is) refl
 literal_complete text lexical datatype lang rest (inr (inl h)) stop =
     let s = string_complete text lexical h.behind h.string in
     let space = skipped h.behind h.to_sign h.space in
     let d = datatype_complete h.to_sign datatype rest (record { after_sign = h.after_sign; to_iri = h.to_iri; sign = h.sign; space = h.space_behind; iri = h.iri; other = h.other }) in
     let there : literal_by lexical h.behind h.to_sign ≡ Some (terms.Literal lexical datatype [], rest) =
-        ap (literal_by lexical h.behind) h.sign ∙ rw (ap datatype_at (sym h.sign) ∙ d) refl in
+    ap (literal_by lexical h.behind) h.sign ∙ rw (ap datatype_at (sym h.sign) ∙ d) refl in
     rw (s, space, there, h.no_tag) refl
 literal_complete text lexical datatype lang rest (inr (inr h)) stop =
     let s = string_complete text lexical rest h.string in

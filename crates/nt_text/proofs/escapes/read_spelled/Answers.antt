@@ -18,8 +18,9 @@ escapes-preserved c =
     let text = chars c.in-Some.behind.now in
     let plain = c.span-in-Some.ensures.front ∙ ap (λ p. front p text) class in
     let rest = c.span-in-Some.ensures.after ∙ ap (λ p. after p text) class in
-    let escape = sym c.in-Some.ensures.exact in
-    (c.span-in-Some.ensures.utf8.1,
-    gone_on c.args.quoted (chars c.escapes.left.now) text (chars c.span-in-Some.result.1.now) _ _ _ _ c.span-in-Some.result.0.now c.in-Some.c
-        c.span-in-Some.ensures.utf8.0 escape plain rest c.in_ok-push.ensures.bytes c.in_ok-push_str.ensures.bytes c.escapes.invariant.1,
-    left_on c.args.quoted (chars c.escapes.left.now) text (chars c.span-in-Some.result.1.now) _ c.in-Some.c escape rest c.escapes.invariant.2)
+    let escape = sym c.in-Some.ensures.exact in (
+      c.span-in-Some.ensures.utf8.1,
+      gone_on c.args.quoted (chars c.escapes.left.now) text (chars c.span-in-Some.result.1.now) _ _ _ _ c.span-in-Some.result.0.now c.in-Some.c
+          c.span-in-Some.ensures.utf8.0 escape plain rest c.in_ok-push.ensures.bytes c.in_ok-push_str.ensures.bytes c.escapes.invariant.1,
+      left_on c.args.quoted (chars c.escapes.left.now) text (chars c.span-in-Some.result.1.now) _ c.in-Some.c escape rest c.escapes.invariant.2,
+    )
