@@ -1,14 +1,14 @@
 -- Pages given one after the other, up to the last.
-use Rattle.std.proofs.Common.{◌≡◌, ℕ, ◌+◌, ◌<◌, ◌≤◌, List, [], ◌∷◌, ◌++◌, Bool, true, false, Option, Some, None, refl, sym, ap, ◌∙◌, subst, arith, length-append, append_assoc}
+use Rattle.std.proofs.Common.{◌≡◌, ℕ, ◌+◌, ◌<◌, ◌≤◌, List, [], ◌∷◌, ◌++◌, length, Bool, true, false, Option, Some, None, refl, sym, ap, ◌∙◌, subst, arith, length-append, append_assoc}
 use Rattle.std.specs.Prelude.{flat_map, max, is_some}
 use Rattle.std.proofs.lemmas.Grind.{flat_map-append}
 use Rattle.term_core.specs.declared.term.Triple.{Triple}
 use Rattle.term_core.specs.declared.pattern.Pattern.{Pattern}
 use Rattle.term_core.specs.Mappings.{Name, Row}
 use Rattle.plan_tree.specs.Trace.{Plan, steps}
-use Rattle.plan_tree.specs.Pages.{Page, IsNext, page_end, IsPage, IsRun, rows_in, steps_in, next_length, longest_in}
+use Rattle.plan_tree.specs.Pages.{Page, IsNext, page_end, IsPage, IsRun, AreQuanta, walked, rows_in, steps_in, next_length, longest_in}
 use Rattle.plan_tree.specs.StateLaws.{TakesSteps}
-use Rattle.plan_tree.proofs.Runs.{takes_steps}
+use Rattle.plan_tree.proofs.Runs.{takes_steps, goes_round}
 use Rattle.pattern_page.specs.declared.page.Part.{Part}
 use Rattle.pattern_page.specs.declared.follow.Counts.{Counts}
 use Rattle.pattern_page.specs.declared.follow.Walk.{Walk}
@@ -42,31 +42,34 @@ lines_more names pages page before middle after e f =
     f ∙ ap (λ w. w ++ shown page.rows) e ∙ append_assoc before (shown (rows_in pages)) (shown page.rows)
     ∙ ap (λ w. before ++ w) (sym (flat_map-append (line names) (rows_in pages) page.rows) ∙ ap shown (sym (rows_more pages page)))
 
-module _ (D : List Triple) (plan : Plan) (text : List ℕ) (quantum : ℕ) where
-  front_more : (m n : ℕ) (pages : List Page) (page : Page) → IsFront D plan text quantum m pages n → n < steps D plan → IsPage D plan text n quantum page → IsFront D plan text quantum m (pages ++ page ∷ []) (n + page.steps)
-  front_more m n [] page f l is =
+module _ (D : List Triple) (plan : Plan) (text : List ℕ) (quanta : ℕ → ℕ) where
+  front_more : (k m n place : ℕ) (pages : List Page) (page : Page) → IsFront D plan text quanta k m pages n → n < steps D plan → place ≡ k + length pages
+      → IsPage D plan text n (quanta place) page → IsFront D plan text quanta k m (pages ++ page ∷ []) (n + page.steps)
+  front_more k m n place [] page f l e is =
       let same : n ≡ m = sym f in
-      (subst (λ w. w < steps D plan) same l, subst (λ w. IsPage D plan text w quantum page) same is, ap (λ w. w + page.steps) f)
-  front_more m n (p ∷ pages) page (l, is, rest) g page_is = (l, is, front_more (m + p.steps) n pages page rest g page_is)
+      let first : place ≡ k = omega (arith, e) in
+      (subst (λ w. w < steps D plan) same l, subst (λ w. IsPage D plan text w (quanta k) page) same (subst (λ w. IsPage D plan text n (quanta w) page) first is), ap (λ w. w + page.steps) f)
+  front_more k m n place (p ∷ pages) page (l, is, rest) g e page_is =
+      (l, is, front_more (k + 1) (m + p.steps) n place pages page rest g (omega (arith, e)) page_is)
 
-  front_run : (k m n : ℕ) (pages : List Page) → IsFront D plan text quantum m pages n → n ≡ steps D plan → IsRun D plan text (λ _. quantum) k m pages
+  front_run : (k m n : ℕ) (pages : List Page) → IsFront D plan text quanta k m pages n → n ≡ steps D plan → IsRun D plan text quanta k m pages
   front_run k m n [] f e = f ∙ e
   front_run k m n (p ∷ pages) (l, is, rest) e = (l, is, front_run (k + 1) (m + p.steps) n pages rest e)
 
-module _ (D : List Triple) (pattern : Pattern) (part : Part) (h : IsPart D pattern part) (quantum : ℕ) (some : 1 ≤ quantum) (names : List Name) where
-  taken : (n : ℕ) (next : Option (List ℕ)) (page : Page) → Begins D pattern n next → IsPage D (part_plan pattern) (part_text pattern) n quantum page → TakesSteps D (part_plan pattern) n quantum page
-  taken n next page b is = takes_steps D (part_plan pattern) (part_text pattern) n quantum page (begins_below D pattern part h n next b) some is
+module _ (D : List Triple) (pattern : Pattern) (part : Part) (h : IsPart D pattern part) (quanta : List ℕ) (are : AreQuanta quanta) (names : List Name) where
+  taken : (k n : ℕ) (next : Option (List ℕ)) (page : Page) → Begins D pattern n next → IsPage D (part_plan pattern) (part_text pattern) n (walked quanta k) page → TakesSteps D (part_plan pattern) n (walked quanta k) page
+  taken k n next page b is = takes_steps D (part_plan pattern) (part_text pattern) n (walked quanta k) page (begins_below D pattern part h n next b) ((goes_round quanta are).some k) is
 
-  given_more : (count : ℕ) (old new : Walk) (before middle after : List ℕ) (more : Bool) → IsWalked D pattern quantum names count old before middle → IsPaged D pattern quantum names old new middle after more
-      → AreGiven D pattern quantum names (count + 1) new before after
+  given_more : (count : ℕ) (old new : Walk) (before middle after : List ℕ) (more : Bool) → IsWalked D pattern quanta names count old before middle → IsPaged D pattern (walked quanta count) names old new middle after more
+      → AreGiven D pattern quanta names (count + 1) new before after
   given_more count old new before middle after more w p =
       let g = w.given in
       let a = g.are in
-      let t = taken old.counts.steps (next_in old) p.page w.begins p.page_is in
+      let t = taken count old.counts.steps (next_in old) p.page w.begins p.page_is in
       record {
         pages = g.pages ++ p.page ∷ [];
-        front = subst (λ n. IsFront D (part_plan pattern) (part_text pattern) quantum 0 (g.pages ++ p.page ∷ []) n) (sym p.counts_are.steps_are)
-            (front_more D (part_plan pattern) (part_text pattern) quantum 0 old.counts.steps g.pages p.page g.front (begins_below D pattern part h old.counts.steps (next_in old) w.begins) p.page_is);
+        front = subst (λ n. IsFront D (part_plan pattern) (part_text pattern) (walked quanta) 0 0 (g.pages ++ p.page ∷ []) n) (sym p.counts_are.steps_are)
+            (front_more D (part_plan pattern) (part_text pattern) (walked quanta) 0 0 old.counts.steps count g.pages p.page g.front (begins_below D pattern part h old.counts.steps (next_in old) w.begins) (omega (arith, g.count_is)) p.page_is);
         count_is = omega (arith, length-append g.pages (p.page ∷ []), g.count_is);
         few = omega (arith, g.few, t.some, p.counts_are.steps_are);
         are = record {
@@ -78,11 +81,11 @@ module _ (D : List Triple) (pattern : Pattern) (part : Part) (h : IsPart D patte
       }
 
   -- where the page ends
-  ends : (count : ℕ) (old new : Walk) (before middle after : List ℕ) (more : Bool) → IsWalked D pattern quantum names count old before middle → IsPaged D pattern quantum names old new middle after more
+  ends : (count : ℕ) (old new : Walk) (before middle after : List ℕ) (more : Bool) → IsWalked D pattern quanta names count old before middle → IsPaged D pattern (walked quanta count) names old new middle after more
       → (next : Option (List ℕ)) × (next_in new ≡ next) × (more ≡ is_some next) × IsNext D (part_plan pattern) (part_text pattern) new.counts.steps next
   ends count old new before middle after more w p =
-      let t = taken old.counts.steps (next_in old) p.page w.begins p.page_is in
-      let end : page_end D (part_plan pattern) old.counts.steps quantum ≡ new.counts.steps = sym t.end ∙ sym p.counts_are.steps_are in
+      let t = taken count old.counts.steps (next_in old) p.page w.begins p.page_is in
+      let end : page_end D (part_plan pattern) old.counts.steps (walked quanta count) ≡ new.counts.steps = sym t.end ∙ sym p.counts_are.steps_are in
       (p.page.next, p.next_is, p.more_is, subst (λ n. IsNext D (part_plan pattern) (part_text pattern) n p.page.next) end p.page_is.next_is)
 
   begins_after : (n : ℕ) (found next : Option (List ℕ)) → found ≡ next → true ≡ is_some next → IsNext D (part_plan pattern) (part_text pattern) n next → Begins D pattern n found
@@ -93,9 +96,13 @@ module _ (D : List Triple) (pattern : Pattern) (part : Part) (h : IsPart D patte
   ends_after n None m is = is
   ends_after n (Some bytes) m is = cc
 
+  -- the quantum of the page is that of the list
+  pub paged_at : (count quantum : ℕ) (old new : Walk) (middle after : List ℕ) (more : Bool) → quantum ≡ walked quanta count → IsPaged D pattern quantum names old new middle after more → IsPaged D pattern (walked quanta count) names old new middle after more
+  paged_at count quantum old new middle after more is p = subst (λ q. IsPaged D pattern q names old new middle after more) is p
+
   -- one page more, and others to come
-  pub walked_more : (count : ℕ) (old new : Walk) (before middle after : List ℕ) (more : Bool) → IsWalked D pattern quantum names count old before middle → IsPaged D pattern quantum names old new middle after more
-      → more ≡ true → IsWalked D pattern quantum names (count + 1) new before after
+  pub walked_more : (count : ℕ) (old new : Walk) (before middle after : List ℕ) (more : Bool) → IsWalked D pattern quanta names count old before middle → IsPaged D pattern (walked quanta count) names old new middle after more
+      → more ≡ true → IsWalked D pattern quanta names (count + 1) new before after
   walked_more count old new before middle after more w p e =
       let x = ends count old new before middle after more w p in
       record {
@@ -104,29 +111,29 @@ module _ (D : List Triple) (pattern : Pattern) (part : Part) (h : IsPart D patte
       }
 
   -- one page more, the last
-  pub walked_through : (count : ℕ) (old new : Walk) (before middle after : List ℕ) (more : Bool) → IsWalked D pattern quantum names count old before middle → IsPaged D pattern quantum names old new middle after more
-      → more ≡ false → IsFollowed D pattern quantum names new.counts before after
+  pub walked_through : (count : ℕ) (old new : Walk) (before middle after : List ℕ) (more : Bool) → IsWalked D pattern quanta names count old before middle → IsPaged D pattern (walked quanta count) names old new middle after more
+      → more ≡ false → IsFollowed D pattern quanta names new.counts before after
   walked_through count old new before middle after more w p e =
       let x = ends count old new before middle after more w p in
       let g = given_more count old new before middle after more w p in
       record {
         pages = g.pages;
-        run = front_run D (part_plan pattern) (part_text pattern) quantum 0 0 new.counts.steps g.pages g.front (ends_after new.counts.steps x.0 (sym e ∙ x.2) x.3);
+        run = front_run D (part_plan pattern) (part_text pattern) (walked quanta) 0 0 new.counts.steps g.pages g.front (ends_after new.counts.steps x.0 (sym e ∙ x.2) x.3);
         are = g.are;
       }
 
   -- there are no more pages than steps
-  pub not_walked : (count : ℕ) (walk : Walk) (before after : List ℕ) → steps D (part_plan pattern) ≤ count → IsWalked D pattern quantum names count walk before after → ⊥
+  pub not_walked : (count : ℕ) (walk : Walk) (before after : List ℕ) → steps D (part_plan pattern) ≤ count → IsWalked D pattern quanta names count walk before after → ⊥
   not_walked count walk before after l w =
       omega (arith, l, w.given.few, begins_below D pattern part h walk.counts.steps (next_in walk) w.begins)
 
-  pub counted_few : (count : ℕ) (walk : Walk) (before after : List ℕ) → IsWalked D pattern quantum names count walk before after → walk.counts.pages ≤ walk.counts.steps
+  pub counted_few : (count : ℕ) (walk : Walk) (before after : List ℕ) → IsWalked D pattern quanta names count walk before after → walk.counts.pages ≤ walk.counts.steps
   counted_few count walk before after w = omega (arith, w.given.few, w.given.count_is, w.given.are.pages_are)
 
 -- no page was given
-pub walked_none : (D : List Triple) (pattern : Pattern) (quantum : ℕ) (names : List Name) (walk : Walk) (before : List ℕ) → walk.counts ≡ record { pages = 0; steps = 0; longest = 0 } → next_in walk ≡ None
-    → IsWalked D pattern quantum names 0 walk before before
-walked_none D pattern quantum names walk before e f =
+pub walked_none : (D : List Triple) (pattern : Pattern) (quanta : List ℕ) (names : List Name) (walk : Walk) (before : List ℕ) → walk.counts ≡ record { pages = 0; steps = 0; longest = 0 } → next_in walk ≡ None
+    → IsWalked D pattern quanta names 0 walk before before
+walked_none D pattern quanta names walk before e f =
     let zero_steps : walk.counts.steps ≡ 0 = ap (λ (c : Counts). c.steps) e in
     record {
       given = record {

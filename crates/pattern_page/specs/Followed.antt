@@ -4,7 +4,7 @@ use Rattle.term_core.specs.declared.term.Triple.{Triple}
 use Rattle.term_core.specs.declared.pattern.Pattern.{Pattern}
 use Rattle.term_core.specs.Mappings.{Name}
 use Rattle.plan_tree.specs.Trace.{Plan, steps}
-use Rattle.plan_tree.specs.Pages.{Page, IsNext, IsPage, IsRun, rows_in, steps_in, next_length, longest_in}
+use Rattle.plan_tree.specs.Pages.{Page, IsNext, IsPage, IsRun, walked, rows_in, steps_in, next_length, longest_in}
 use Rattle.pattern_page.specs.declared.page.Part.{Part}
 use Rattle.pattern_page.specs.declared.follow.Counts.{Counts}
 use Rattle.pattern_page.specs.declared.follow.Walk.{Walk}
@@ -40,11 +40,11 @@ pub record IsPaged (D : List Triple) (pattern : Pattern) (quantum : ℕ) (names 
   pub next_is : next_in new ≡ page.next
   pub more_is : more ≡ is_some page.next
 
--- the pages from after m entries to after n
-abbrev pub IsFront : List Triple → Plan → List ℕ → ℕ → ℕ → List Page → ℕ → Type 0
-IsFront D plan text quantum m [] n = m ≡ n
-IsFront D plan text quantum m (page ∷ pages) n =
-    (m < steps D plan) × IsPage D plan text m quantum page × IsFront D plan text quantum (m + page.steps) pages n
+-- the pages from after m entries to after n, the first of them page k of a run
+abbrev pub IsFront : List Triple → Plan → List ℕ → (ℕ → ℕ) → ℕ → ℕ → List Page → ℕ → Type 0
+IsFront D plan text quanta k m [] n = m ≡ n
+IsFront D plan text quanta k m (page ∷ pages) n =
+    (m < steps D plan) × IsPage D plan text m (quanta k) page × IsFront D plan text quanta (k + 1) (m + page.steps) pages n
 
 -- counts and lines of pages
 pub record AreOf (names : List Name) (pages : List Page) (counts : Counts) (before after : List ℕ) : Type 0 where
@@ -54,20 +54,20 @@ pub record AreOf (names : List Name) (pages : List Page) (counts : Counts) (befo
   pub lines_are : after ≡ before ++ flat_map (line names) (rows_in pages)
 
 -- so many pages were given, each of at least one step
-pub record AreGiven (D : List Triple) (pattern : Pattern) (quantum : ℕ) (names : List Name) (count : ℕ) (walk : Walk) (before after : List ℕ) : Type 0 where
+pub record AreGiven (D : List Triple) (pattern : Pattern) (quanta : List ℕ) (names : List Name) (count : ℕ) (walk : Walk) (before after : List ℕ) : Type 0 where
   pub pages : List Page
-  pub front : IsFront D (part_plan pattern) (part_text pattern) quantum 0 pages walk.counts.steps
+  pub front : IsFront D (part_plan pattern) (part_text pattern) (walked quanta) 0 0 pages walk.counts.steps
   pub count_is : length pages ≡ count
   pub few : count ≤ walk.counts.steps
   pub are : AreOf names pages walk.counts before after
 
 -- so many pages were given, and more are to come
-pub record IsWalked (D : List Triple) (pattern : Pattern) (quantum : ℕ) (names : List Name) (count : ℕ) (walk : Walk) (before after : List ℕ) : Type 0 where
-  pub given : AreGiven D pattern quantum names count walk before after
+pub record IsWalked (D : List Triple) (pattern : Pattern) (quanta : List ℕ) (names : List Name) (count : ℕ) (walk : Walk) (before after : List ℕ) : Type 0 where
+  pub given : AreGiven D pattern quanta names count walk before after
   pub begins : Begins D pattern walk.counts.steps (next_in walk)
 
--- all pages were given, of so many steps each but the last: how many pages and steps there were, how long the longest suspended plan was, and the lines of the rows
-pub record IsFollowed (D : List Triple) (pattern : Pattern) (quantum : ℕ) (names : List Name) (counts : Counts) (before after : List ℕ) : Type 0 where
+-- all pages were given, under a list of quanta that is walked round: how many pages and steps there were, how long the longest suspended plan was, and the lines of the rows
+pub record IsFollowed (D : List Triple) (pattern : Pattern) (quanta : List ℕ) (names : List Name) (counts : Counts) (before after : List ℕ) : Type 0 where
   pub pages : List Page
-  pub run : IsRun D (part_plan pattern) (part_text pattern) (λ _. quantum) 0 0 pages
+  pub run : IsRun D (part_plan pattern) (part_text pattern) (walked quanta) 0 0 pages
   pub are : AreOf names pages counts before after

@@ -3,7 +3,7 @@
 ghost use Rattle.std.specs.Prelude.{◌≡◌, ◌≤◌, ◌<◌, ◌+◌, ◌++◌, List, flat_map, option_map, OnOk, IfOk};
 ghost use Rattle.term_core.specs.declared.term.Triple.{Triple};
 ghost use Rattle.term_core.specs.declared.pattern.Pattern.{Pattern as Patterns};
-ghost use Rattle.plan_tree.specs.Pages.{IsPage};
+ghost use Rattle.plan_tree.specs.Pages.{IsPage, AreQuanta, walked};
 ghost use Rattle.pattern_page.specs.Part.{part_plan, part_text};
 ghost use Rattle.pattern_page.specs.Results.{line};
 ghost use Rattle.pattern_page.specs.PagesOf.{IsPart, HasData, page_of};
@@ -102,21 +102,30 @@ fn give(
     Ok(walk.next.is_some())
 }
 
-/// Gives all pages of the part, of `quantum` steps each but the last, and appends a line to `out` for
-/// each row as it comes, with the terms of `names`. Each page but the first goes on from the bytes
-/// that the page before gave, and from nothing else. After an `Err` a part of the lines may stand at
-/// the end of `out`.
+/// The quantum of a page, counted from 0, where the list is walked round.
+fn quantum_of(quanta: &[u32], page: u64) -> u32
+    requires { AreQuanta quanta.now }
+    ensures walked { result ≡ walked quanta.now page }
+    ensures some { 1 ≤ result }
+{
+    quanta[(page % quanta.len() as u64) as usize]
+}
+
+/// Gives all pages of the part, of as many steps each but the last as the quanta say, which are walked
+/// round, and appends a line to `out` for each row as it comes, with the terms of `names`. Each page but
+/// the first goes on from the bytes that the page before gave, and from nothing else. After an `Err` a
+/// part of the lines may stand at the end of `out`.
 pub fn follow_pages(
     alloc: Global,
     part: &Part,
     names: &[Text],
-    quantum: u32,
+    quanta: &[u32],
     out: &mut Vec<u8>,
 ) -> Result<Counts, Memory>
     requires sound { HasData part.now }
-    requires some { 1 ≤ quantum }
+    requires some { AreQuanta quanta.now }
     ensures { (D : List Triple) (pattern : Patterns) → IsPart D pattern part.now
-        → IfOk result (λ counts. IsFollowed D pattern quantum names.now counts out.old.items out.new.items) }
+        → IfOk result (λ counts. IsFollowed D pattern quanta.now names.now counts out.old.items out.new.items) }
 {
     let counts = Counts {
         pages: 0,
@@ -124,7 +133,8 @@ pub fn follow_pages(
         longest: 0,
     };
     let mut walk = Walk { counts, next: None };
-    'pages: for _ in 0..part.steps() {
+    'pages: for page in 0..part.steps() {
+        let quantum = quantum_of(quanta, page);
         if !give(alloc, part, names, quantum, &mut walk, out)? {
             break;
         }

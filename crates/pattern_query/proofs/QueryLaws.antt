@@ -11,12 +11,11 @@ use Rattle.term_core.specs.declared.pattern.Place.TheVariants as places
 use Rattle.term_core.specs.declared.pattern.Pattern.{Pattern}
 use Rattle.term_core.specs.Mappings.{Name}
 use Rattle.term_core.specs.Texts.{xsd_string}
-use Rattle.nt_text.specs.Reading.{◌>>=◌}
-use Rattle.nt_text.proofs.Laws.{bind_some, some_is}
 use Rattle.pattern_query.specs.declared.query_text.Token.{Token}
 use Rattle.pattern_query.specs.declared.query_text.Token.TheVariants as kinds
 use Rattle.pattern_query.specs.Query.{is_keyword, IsWhere, IsDot, IsVariableOrIri, IsObject, variables_of, with_new, IsSelection, IsSelect, IsQuery}
-use Rattle.pattern_query.specs.QueryReading.{place_at, object_at, is_end, group_at, body_at, variables_front, variables_after, selection_at, select_at, is_text, tokens_of, query_at}
+use Rattle.pattern_query.specs.QueryReading.{◌>>=◌, place_at, object_at, is_end, group_at, body_at, variables_front, variables_after, selection_at, select_at, is_text, tokens_of, query_at}
+use Rattle.pattern_query.proofs.TerminalLaws.{bind_some, some_is}
 use Rattle.pattern_query.proofs.QueryTokens.{guarded, tokens_of_sound, tokens_of_complete}
 
 -- ---- places

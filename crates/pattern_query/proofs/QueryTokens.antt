@@ -1,5 +1,5 @@
 -- Tokens: those that are read of a text are its tokens, and its tokens are read.
-use Rattle.std.proofs.Common.{◌≡◌, ◌≤◌, ◌<◌, ◌+◌, ℕ, zero, suc, Bool, true, false, cond, List, [], ◌∷◌, ◌++◌, Option, Some, None, eqb, inl, inr, ◌⊎◌, refl, sym, ap, subst, ◌∙◌, length, length-append, append_assoc, arith}
+use Rattle.std.proofs.Common.{◌≡◌, ◌≤◌, ◌<◌, ◌+◌, ℕ, zero, suc, Bool, true, false, cond, List, [], ◌∷◌, ◌++◌, Option, Some, None, Err, eqb, inl, inr, ◌⊎◌, refl, sym, ap, subst, ◌∙◌, length, length-append, append_assoc, arith}
 use Rattle.std.specs.Prelude.{◌||◌}
 use Rattle.std.proofs.lemmas.Bool.{eqb-true, and_parts}
 use Rattle.std.proofs.lemmas.Bool.Decides.{nat_tests}
@@ -9,15 +9,16 @@ use Rattle.std.proofs.lemmas.List.Elements.{All-nil, All-cons}
 use Rattle.std.proofs.lemmas.Str.{IsUtf8-from_ascii}
 use Rattle.std.proofs.lemmas.Str.Ascii.{IsAscii-from_all}
 use Rattle.std.specs.List.{All, list_all}
-use Rattle.nt_text.specs.Characters.{is_letter, front, after, begins, AreAll}
-use Rattle.nt_text.specs.Grammar.{IsIri, IsString}
-use Rattle.nt_text.specs.Reading.{◌>>=◌, text_at, iri_at, string_at}
-use Rattle.nt_text.proofs.Laws.{bind_some, some_is, parts, passes, behind_stops, stops, iri_sound, iri_complete, string_sound, string_complete}
-use Rattle.nt_text.proofs.Utf8.{text_at_utf8}
+use Rattle.term_core.specs.Characters.{is_letter, AreAll}
+use Rattle.pattern_query.specs.declared.query.QueryFault.{QueryFault}
+use Rattle.pattern_query.specs.declared.query.QueryFault.TheVariants as faults
 use Rattle.pattern_query.specs.declared.query_text.Token.{Token}
 use Rattle.pattern_query.specs.declared.query_text.Token.TheVariants as kinds
-use Rattle.pattern_query.specs.Query.{is_space, is_name, IsWord, IsVariable, IsToken, IsLongest, AreTokens}
-use Rattle.pattern_query.specs.QueryReading.{token_at, variable_at, word_at, sign_of, tokens_at, tokens_there, tokens_of, with_front}
+use Rattle.pattern_query.specs.Terminals.{is_space, is_name, front, after, begins, IsIri, IsString}
+use Rattle.pattern_query.specs.Query.{IsWord, IsVariable, IsToken, IsLongest, AreTokens}
+use Rattle.pattern_query.specs.QueryReading.{◌>>=◌, Reads, text_at, iri_at, string_at, token_at, variable_at, word_at, sign_of, tokens_at, tokens_there, tokens_of, with_front}
+use Rattle.pattern_query.proofs.Utf8.{text_at_utf8}
+use Rattle.pattern_query.proofs.TerminalLaws.{bind_some, some_is, parts, passes, behind_stops, stops, iri_sound, iri_complete, string_sound, string_complete}
 
 -- ---- tests
 
@@ -527,6 +528,12 @@ pub goes_wrong : (text : List ℕ) (tokens : List Token) (all : Option (List Tok
     token_at text ≡ None → with_front tokens (tokens_there text) ≡ all → all ≡ None
 goes_wrong [] tokens all some e so_far = absurd (some refl)
 goes_wrong (c ∷ text) tokens all some e so_far = sym so_far ∙ ap (with_front tokens) (step_none c text e)
+
+-- a fault at a token is the fault of the text
+pub fault_kept : (fault : QueryFault) (text : List ℕ) (tokens : List Token) (all : Option (List Token)) → (text ≡ [] → ⊥) →
+    Reads (λ (found : Token × List ℕ). found) (Err fault) (token_at text) → with_front tokens (tokens_there text) ≡ all → Reads (λ (found : List Token). found) (Err fault) all
+fault_kept faults.Form text tokens all some none so_far = goes_wrong text tokens all some none so_far
+fault_kept faults.Memory text tokens all some none so_far = tt
 
 pub all_read : (tokens : List Token) (all : Option (List Token)) → with_front tokens (tokens_there []) ≡ all → all ≡ Some tokens
 unfolding tokens_there tokens_at

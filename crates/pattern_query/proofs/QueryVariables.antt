@@ -11,10 +11,11 @@ use Rattle.term_core.proofs.Bags.{In-append_left, In-append_right, In-append_cas
 use Rattle.sparql_tree.specs.Algebra.{is_variable}
 use Rattle.sparql_tree.specs.Bgp.{names_at, names_in, position_of, pattern_of}
 use Rattle.sparql_tree.proofs.Visible.{apart}
-use Rattle.nt_text.specs.Characters.{AreAll}
+use Rattle.term_core.specs.Characters.{AreAll}
 use Rattle.pattern_query.specs.declared.query_text.Token.{Token}
 use Rattle.pattern_query.specs.declared.query_text.Token.TheVariants as kinds
-use Rattle.pattern_query.specs.Query.{is_name, IsToken, AreTokens, IsVariableOrIri, IsObject, variables_at, variables_of, with_name, with_new, IsSelect, IsQuery}
+use Rattle.pattern_query.specs.Terminals.{is_name}
+use Rattle.pattern_query.specs.Query.{IsToken, AreTokens, IsVariableOrIri, IsObject, variables_at, variables_of, with_name, with_new, IsSelect, IsQuery}
 
 -- ---- names of variables
 

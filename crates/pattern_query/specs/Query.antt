@@ -1,6 +1,6 @@
 -- The grammar of a query (SPARQL 1.1, section 19.8, narrowed to one triple pattern): how each part is spelled, apart
 -- from how it is read.
-use Rattle.std.specs.Prelude.{◌≡◌, ◌≢◌, ◌≤◌, ◌⊎◌, ◌++◌, ◌==◌, ◌||◌, ◌&&◌, ℕ, Bool, true, codes, nat_le, List, [], ◌∷◌, length, map, if◌then◌else◌}
+use Rattle.std.specs.Prelude.{◌≡◌, ◌≢◌, ◌≤◌, ◌⊎◌, ◌++◌, ℕ, Bool, true, codes, List, [], ◌∷◌, length, map, if◌then◌else◌}
 use Rattle.std.specs.Str.{IsUtf8, str_eq_ignore_ascii_case}
 use Rattle.term_core.specs.declared.term.Term.TheVariants as terms
 use Rattle.term_core.specs.declared.pattern.Place.{Place}
@@ -8,27 +8,12 @@ use Rattle.term_core.specs.declared.pattern.Place.TheVariants as places
 use Rattle.term_core.specs.declared.pattern.Pattern.{Pattern}
 use Rattle.term_core.specs.Mappings.{Name, has_name}
 use Rattle.term_core.specs.Texts.{xsd_string}
-use Rattle.nt_text.specs.Characters.{is_among, is_letter, begins, AreAll}
-use Rattle.nt_text.specs.Grammar.{IsIri, IsString}
+use Rattle.term_core.specs.Characters.{is_letter, AreAll}
 use Rattle.pattern_query.specs.declared.query_text.Token.{Token}
 use Rattle.pattern_query.specs.declared.query_text.Token.TheVariants as kinds
-use Rattle.pattern_query.specs.declared.query_text.Class.{Class}
-use Rattle.pattern_query.specs.declared.query_text.Class.TheVariants as classes
+use Rattle.pattern_query.specs.Terminals.{is_space, is_name, begins, IsIri, IsString}
 
 -- ---- tokens
-
--- a space, a tab, a CR or an LF (SPARQL 1.1 19.8, WS)
-abbrev pub is_space : ℕ → Bool
-is_space c = is_among (codes " \t\r\n") c
-
--- an ASCII letter, a digit or _ (SPARQL 1.1 19.8, VARNAME, its ASCII part)
-abbrev pub is_name : ℕ → Bool
-is_name c = is_letter c || (nat_le 48 c && nat_le c 57) || (c == 95)
-
--- the characters of each class
-abbrev pub is_in : Class → ℕ → Bool
-is_in classes.Space c = is_space c
-is_in classes.Name c = is_name c
 
 -- a letter, then letters, digits and _ (SPARQL 1.1 19.8, the keywords)
 pub record IsWord (word : List ℕ) : Type 0 where

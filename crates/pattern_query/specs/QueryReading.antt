@@ -10,19 +10,52 @@ use Rattle.term_core.specs.declared.pattern.Place.TheVariants as places
 use Rattle.term_core.specs.declared.pattern.Pattern.{Pattern}
 use Rattle.term_core.specs.Mappings.{Name, has_name}
 use Rattle.term_core.specs.Texts.{xsd_string}
-use Rattle.nt_text.specs.Characters.{is_letter, front, after}
-use Rattle.nt_text.specs.Reading.{◌>>=◌, text_at, iri_at, string_at}
+use Rattle.term_core.specs.Characters.{is_letter, is_iri, is_plain}
 use Rattle.pattern_query.specs.declared.query.QueryFault.{QueryFault}
 use Rattle.pattern_query.specs.declared.query.QueryFault.TheVariants as faults
 use Rattle.pattern_query.specs.declared.query_text.Token.{Token}
 use Rattle.pattern_query.specs.declared.query_text.Token.TheVariants as kinds
-use Rattle.pattern_query.specs.Query.{is_space, is_name, is_keyword, variables_of, with_new}
+use Rattle.pattern_query.specs.Terminals.{is_space, is_name, front, after, has_scheme}
+use Rattle.pattern_query.specs.Query.{is_keyword, variables_of, with_new}
+
+-- a step, and where it read something the next
+infixl 10 ◌>>=◌
+abbrev pub ◌>>=◌ : {A B : Type 0} → Option A → (A → Option B) → Option B
+(Some x) >>= f = f x
+None >>= f = None
 
 -- A reader gives what reading gives, unless memory ran out: `Form` comes exactly where nothing is read.
 abbrev pub Reads : {X Y : Type 0} → (X → Y) → Result X QueryFault → Option Y → Type 0
 Reads view (Ok x) read = read ≡ Some (view x)
 Reads view (Err faults.Form) read = read ≡ None
 Reads view (Err faults.Memory) read = Unit {0}
+
+-- ---- terminals
+
+-- a byte, and what is behind it
+abbrev pub expect : ℕ → List ℕ → Option (List ℕ)
+expect b [] = None
+expect b (c ∷ rest) = if c == b then Some rest else None
+
+-- the bytes, if they are UTF-8 (RFC 3629 4)
+abbrev pub text_at : List ℕ → Option (List ℕ)
+text_at bytes = if is_utf8 bytes then Some bytes else None
+
+-- an IRI, and what is behind it (SPARQL 1.1 19.8, IRIREF)
+unfoldable pub iri_at : List ℕ → Option (List ℕ × List ℕ)
+iri_at bytes = do
+  body ← expect 60 bytes
+  rest ← expect 62 (after is_iri body)
+  iri ← text_at (front is_iri body)
+  if has_scheme iri then Some (iri, rest) else None
+
+-- a string's characters, and what is behind it (SPARQL 1.1 19.8, STRING_LITERAL2)
+unfoldable pub string_at : List ℕ → Option (List ℕ × List ℕ)
+string_at bytes = do
+  body ← expect 34 bytes
+  rest ← expect 34 (after is_plain body)
+  lexical ← text_at (front is_plain body)
+  Some (lexical, rest)
 
 -- ---- tokens
 

@@ -7,6 +7,7 @@ mod query_names;
 #[cfg(test)]
 mod query_tests;
 mod query_text;
+mod terminals;
 
 pub use query::{QUERY_BYTES, QueryFault, SelectQuery, read_query};
 pub use query_laws::{queries_are_read, queries_have_variables};

@@ -1,13 +1,10 @@
 //! The tokens of a query (SPARQL 1.1, section 19.8).
 
-ghost use Rattle.std.specs.Prelude.{◌≡◌, ◌≤◌, [], ◌∷◌, length};
-ghost use Rattle.nt_text.specs.Characters.{front, after};
-ghost use Rattle.nt_text.specs.Reading.{Gives};
-ghost use Rattle.pattern_query.specs.Query.{is_in, is_space};
+ghost use Rattle.std.specs.Prelude.{◌≡◌};
 ghost use Rattle.pattern_query.specs.QueryReading.{Reads, token_at, variable_at, word_at, sign_of, tokens_of};
 
 use crate::QueryFault;
-use nt_text::{DataFault, read_iri, read_string, text_of};
+use crate::terminals::{Class, is_in, read_iri, read_string, skip_spaces, span, text_of};
 use std::alloc::Global;
 use term_core::{Items, Text};
 
@@ -32,58 +29,16 @@ pub enum Token {
     Dot,
 }
 
-/// A class of characters, all of them ASCII.
-#[derive(Clone, Copy, Debug, PartialEq, Eq)]
-enum Class {
-    /// Space, tab, CR and LF (WS).
-    Space,
-    /// ASCII letters, digits and `_`: what a word and a variable's name go on with.
-    Name,
-}
-
-/// Whether a byte is of the class.
-fn is_in(class: Class, byte: u8) -> bool
-    ensures { result ≡ is_in class byte }
-{
-    match class {
-        Class::Space => matches!(byte, b' ' | b'\t' | b'\r' | b'\n'),
-        Class::Name => byte.is_ascii_alphabetic() || byte.is_ascii_digit() || byte == b'_',
-    }
-}
-
-/// Cuts a text behind its longest front that is all of the class: that front, and the rest.
-fn span(class: Class, bytes: &[u8]) -> (&[u8], &[u8])
-    ensures front { result.0.now ≡ front (is_in class) bytes.now }
-    ensures after { result.1.now ≡ after (is_in class) bytes.now }
-    ensures shorter { length result.1.now ≤ length bytes.now }
-{
-    for (i, byte) in bytes.iter().enumerate() {
-        if !is_in(class, *byte) {
-            return bytes.split_at(i);
-        }
-    }
-    bytes.split_at(bytes.len())
-}
-
-/// What is behind the spaces that a text begins with.
-fn skip_spaces(bytes: &[u8]) -> &[u8]
-    ensures rest { result.now ≡ after is_space bytes.now }
-    ensures shorter { length result.now ≤ length bytes.now }
-{
-    let (_, rest) = span(Class::Space, bytes);
-    rest
-}
-
 /// The variable behind its sign, and what is behind it.
 #[tactic(auto, unfolding(crate::specs::QueryReading::variable_at))]
-fn read_variable(alloc: Global, bytes: &[u8]) -> Result<(Token, &[u8]), DataFault>
-    ensures { Gives (λ found. (found.0, found.1.now)) result (variable_at bytes.now) }
+fn read_variable(alloc: Global, bytes: &[u8]) -> Result<(Token, &[u8]), QueryFault>
+    ensures { Reads (λ found. (found.0, found.1.now)) result (variable_at bytes.now) }
 {
     match bytes {
-        [] => Err(DataFault::Form),
+        [] => Err(QueryFault::Form),
         [first, ..] => {
             if !is_in(Class::Name, *first) {
-                return Err(DataFault::Form);
+                return Err(QueryFault::Form);
             }
             let (name, rest) = span(Class::Name, bytes);
             let name = text_of(alloc, name)?;
@@ -94,8 +49,8 @@ fn read_variable(alloc: Global, bytes: &[u8]) -> Result<(Token, &[u8]), DataFaul
 
 /// The word at the front of a text that begins with a letter, and what is behind it.
 #[tactic(auto, unfolding(crate::specs::QueryReading::word_at))]
-fn read_word(alloc: Global, bytes: &[u8]) -> Result<(Token, &[u8]), DataFault>
-    ensures { Gives (λ found. (found.0, found.1.now)) result (word_at bytes.now) }
+fn read_word(alloc: Global, bytes: &[u8]) -> Result<(Token, &[u8]), QueryFault>
+    ensures { Reads (λ found. (found.0, found.1.now)) result (word_at bytes.now) }
 {
     let (word, rest) = span(Class::Name, bytes);
     let word = text_of(alloc, word)?;
@@ -119,11 +74,11 @@ fn sign_of(byte: u8) -> Option<Token>
 /// The longest token at the front of a text, and what is behind it. `Form` comes exactly where no
 /// token stands there.
 #[tactic(auto, unfolding(crate::specs::QueryReading::token_at))]
-fn read_token(alloc: Global, bytes: &[u8]) -> Result<(Token, &[u8]), DataFault>
-    ensures { Gives (λ found. (found.0, found.1.now)) result (token_at bytes.now) }
+fn read_token(alloc: Global, bytes: &[u8]) -> Result<(Token, &[u8]), QueryFault>
+    ensures { Reads (λ found. (found.0, found.1.now)) result (token_at bytes.now) }
 {
     match bytes {
-        [] => Err(DataFault::Form),
+        [] => Err(QueryFault::Form),
         [b'<', ..] => {
             let (iri, rest) = read_iri(alloc, bytes)?;
             Ok((Token::Iri(iri), rest))
@@ -139,7 +94,7 @@ fn read_token(alloc: Global, bytes: &[u8]) -> Result<(Token, &[u8]), DataFault>
             }
             match sign_of(*first) {
                 Some(sign) => Ok((sign, rest)),
-                None => Err(DataFault::Form),
+                None => Err(QueryFault::Form),
             }
         }
     }
@@ -154,8 +109,7 @@ pub fn read_tokens(alloc: Global, text: &[u8]) -> Result<Items<Token>, QueryFaul
     'tokens: while !left.is_empty() {
         let (token, rest) = match read_token(alloc, left) {
             Ok(found) => found,
-            Err(DataFault::Form) => return Err(QueryFault::Form),
-            Err(DataFault::Memory) => return Err(QueryFault::Memory),
+            Err(fault) => return Err(fault),
         };
         if tokens.push(token).is_err() {
             return Err(QueryFault::Memory);

@@ -1,12 +1,13 @@
 -- Pages followed to the end.
-use Rattle.std.proofs.Common.{◌≡◌, ℕ, zero, suc, ◌+◌, ◌-◌, ◌*◌, ◌<◌, ◌≤◌, List, [], ◌∷◌, ◌++◌, length, take, drop, Option, Some, None, refl, sym, ap, ◌∙◌, subst, ⊎_elim, arith}
+use Rattle.std.proofs.Common.{◌≡◌, ℕ, zero, suc, ◌+◌, ◌-◌, ◌*◌, ◌%◌, ◌<◌, ◌≤◌, List, [], ◌∷◌, ◌++◌, length, get_or, take, drop, Option, Some, None, refl, sym, ap, ◌∙◌, subst, ⊎_elim, arith}
+use Rattle.std.proofs.Math.Nat.{mod-lt, mod-eq_of_lt, add-mod_right}
 use Rattle.std.proofs.lemmas.Bool.{cases_lt}
 use Rattle.std.proofs.lemmas.List.{drop-drop, drop_all, take-append-drop}
 use Rattle.term_core.specs.declared.term.Triple.{Triple}
 use Rattle.plan_tree.specs.Trace.{Plan, trace, steps, rows_of}
 use Rattle.plan_tree.specs.Spelling.{plan_bytes, nodes}
-use Rattle.plan_tree.specs.Pages.{Page, IsNext, page_end, IsPage, IsRun, rows_in, steps_in, next_length, longest_in}
-use Rattle.plan_tree.specs.StateLaws.{AreWhole, HasOne, TakesSteps}
+use Rattle.plan_tree.specs.Pages.{Page, IsNext, page_end, IsPage, IsRun, AreQuanta, rows_in, steps_in, next_length, longest_in}
+use Rattle.plan_tree.specs.StateLaws.{AreWhole, HasOne, TakesSteps, GoesRound}
 use Rattle.plan_tree.proofs.Traces.{rows_of-append}
 use Rattle.plan_tree.proofs.Spelled.{bounded}
 use Rattle.plan_tree.proofs.Standing.{some_state, same_state, stands_below}
@@ -114,3 +115,11 @@ pub one_run : (D : List Triple) (plan : Plan) (text : List ℕ) (quanta : ℕ �
 one_run D plan text quanta some =
     let run = run_from D plan text quanta some (steps D plan) 0 0 (omega arith) (omega arith) in
     record { found = run.0; has = run.1; alone = λ others h. run_same D plan text quanta 0 0 others run.0 h run.1 }
+
+-- the quanta of a list that is walked round
+pub goes_round : (quanta : List ℕ) → AreQuanta quanta → GoesRound quanta
+goes_round quanta are = record {
+  first = λ k below. ap (λ place. get_or quanta place 0) (mod-eq_of_lt below);
+  again = λ k. ap (λ place. get_or quanta place 0) (add-mod_right k (length quanta));
+  some = λ k. are.each (k % length quanta) 0 (mod-lt k are.some);
+}

@@ -1,5 +1,5 @@
 -- Pages: what a server gives for one quantum, and all pages of a plan, followed from none to none.
-use Rattle.std.specs.Prelude.{◌≡◌, ℕ, ◌+◌, ◌-◌, ◌<◌, min, max, List, [], ◌∷◌, length, take, drop, flat_map, Option, Some, None}
+use Rattle.std.specs.Prelude.{◌≡◌, ℕ, ◌+◌, ◌-◌, ◌%◌, ◌<◌, ◌≤◌, min, max, List, [], ◌∷◌, length, slice_index_or, take, drop, flat_map, All, Option, Some, None}
 use Rattle.term_core.specs.declared.term.Triple.{Triple}
 use Rattle.term_core.specs.Mappings.{Row}
 use Rattle.plan_tree.specs.Trace.{Plan, trace, steps, rows_of}
@@ -32,6 +32,15 @@ abbrev pub IsRun : List Triple → Plan → List ℕ → (ℕ → ℕ) → ℕ �
 IsRun D plan text quanta k n [] = n ≡ steps D plan
 IsRun D plan text quanta k n (page ∷ pages) =
     (n < steps D plan) × IsPage D plan text n (quanta k) page × IsRun D plan text quanta (k + 1) (n + page.steps) pages
+
+-- there is a quantum, and under each a page takes a step
+pub record AreQuanta (quanta : List ℕ) : Type 0 where
+  pub some : 0 < length quanta
+  pub each : All (λ quantum. 1 ≤ quantum) quanta
+
+-- the quantum of page k where a list of quanta is walked round: after the last comes the first again
+abbrev pub walked : List ℕ → ℕ → ℕ
+walked quanta k = slice_index_or quanta (k % length quanta) 0
 
 -- the rows of pages, one page after the other
 abbrev pub rows_in : List Page → List Row

@@ -1,5 +1,5 @@
 -- What is proved of states, of their bytes and of pages.
-use Rattle.std.specs.Prelude.{◌≡◌, ℕ, ◌+◌, ◌*◌, ◌^◌, ◌≤◌, ◌<◌, List, length, take, drop, slice_get, Option, Some}
+use Rattle.std.specs.Prelude.{◌≡◌, ℕ, ◌+◌, ◌*◌, ◌^◌, ◌≤◌, ◌<◌, List, length, slice_index_or, take, drop, slice_get, Option, Some}
 use Rattle.std.specs.List.Sorted.{IsStrictlySortedBy}
 use Rattle.sha2.specs.Sha256.{sha256}
 use Rattle.term_core.specs.declared.term.Term.{Term}
@@ -11,7 +11,7 @@ use Rattle.sparql_tree.specs.Laws.{HaveSame}
 use Rattle.plan_tree.specs.Trace.{Plan, rows_plan, join_plan, project_plan, trace, steps, rows_of}
 use Rattle.plan_tree.specs.States.{rank, ids_of, State, Stands, StandsAt}
 use Rattle.plan_tree.specs.Spelling.{data_id, state_bytes, plan_bytes, nodes}
-use Rattle.plan_tree.specs.Pages.{Page, IsNext, page_end, IsPage, IsRun, rows_in, steps_in, longest_in}
+use Rattle.plan_tree.specs.Pages.{Page, IsNext, page_end, IsPage, IsRun, AreQuanta, walked, rows_in, steps_in, longest_in}
 
 -- pages that, one after the other, have the rows and the steps of the whole plan; each suspended plan among them is short
 pub record AreWhole (D : List Triple) (plan : Plan) (pages : List Page) : Type 0 where
@@ -49,6 +49,16 @@ pub record TakesSteps (D : List Triple) (plan : Plan) (n quantum : ℕ) (page : 
 abbrev pub PagesTakeSteps : Type 0
 PagesTakeSteps = (D : List Triple) (plan : Plan) (text : List ℕ) (n quantum : ℕ) (page : Page) → n < steps D plan → 1 ≤ quantum →
     IsPage D plan text n quantum page → TakesSteps D plan n quantum page
+
+-- the list's own quanta in their order, then the same again, and each lets a page take a step
+pub record GoesRound (quanta : List ℕ) : Type 0 where
+  pub first : (k : ℕ) → k < length quanta → walked quanta k ≡ slice_index_or quanta k 0
+  pub again : (k : ℕ) → walked quanta (k + length quanta) ≡ walked quanta k
+  pub some : (k : ℕ) → 1 ≤ walked quanta k
+
+-- so goes each list of quanta
+abbrev pub QuantaGoRound : Type 0
+QuantaGoRound = (quanta : List ℕ) → AreQuanta quanta → GoesRound quanta
 
 -- wherever entries are still to come one state stands
 abbrev pub OneState : Type 0

@@ -10,5 +10,5 @@ pub use law::{
 };
 pub use states::{
     bytes_of_states, one_run, one_state, pages_join, pages_take_steps, pattern_rows,
-    pattern_states, ranks_are_places, states_of_sets,
+    pattern_states, quanta_go_round, ranks_are_places, states_of_sets,
 };

@@ -1,6 +1,6 @@
 //! Laws of states, of their bytes and of pages. Each function does nothing when it runs: its contract is the law.
 ghost use Rattle.plan_tree.specs.OnePattern.{PatternTraces, PatternStatesStand, NoOtherStates, EntriesAreKept, RowsAreSolutions, SelectedRowsAnswer};
-ghost use Rattle.plan_tree.specs.StateLaws.{PagesJoin, OneRun, OnePage, PagesTakeSteps, OneState, OneStateAt, StatesAreBelow, OtherPlaces, RanksArePlaces, RanksExact, Bounded, OneSpelling, NextsArePlaced, PartsAreFixed, NamesAreTold, StatesOfSets};
+ghost use Rattle.plan_tree.specs.StateLaws.{PagesJoin, OneRun, OnePage, PagesTakeSteps, OneState, OneStateAt, StatesAreBelow, OtherPlaces, QuantaGoRound, RanksArePlaces, RanksExact, Bounded, OneSpelling, NextsArePlaced, PartsAreFixed, NamesAreTold, StatesOfSets};
 
 /// The pages of a plan, followed from the first to the one after which nothing is left, have the rows
 /// of the whole trace in their order, and as many steps, whatever the quanta: no row is lost or
@@ -20,6 +20,12 @@ pub fn one_run()
 /// plan ends first.
 pub fn pages_take_steps()
     ensures steps { PagesTakeSteps }
+{}
+
+/// A list of quanta that is walked round gives its own quanta in their order and then the same again,
+/// so that the laws above hold of it.
+pub fn quanta_go_round()
+    ensures round { QuantaGoRound }
 {}
 
 /// After each number of entries up to the plan's steps stands one state, at the end the one that is

@@ -1,5 +1,5 @@
 -- What the pages give is the answer.
-use Rattle.std.proofs.Common.{◌≡◌, ◌≤◌, ℕ, List, [], ◌∷◌, ◌++◌, length, map, refl, sym, ap, ◌∙◌, subst, inl, inr}
+use Rattle.std.proofs.Common.{◌≡◌, ℕ, List, [], ◌∷◌, ◌++◌, length, map, refl, sym, ap, ◌∙◌, subst, inl, inr}
 use Rattle.std.specs.Prelude.{flat_map}
 use Rattle.term_core.specs.declared.term.Triple.{Triple}
 use Rattle.term_core.specs.declared.pattern.Pattern.{Pattern}
@@ -10,8 +10,8 @@ use Rattle.sparql_tree.specs.Bgp.{pattern_of, names_in}
 use Rattle.sparql_tree.specs.Algebra.{Bgp}
 use Rattle.sparql_tree.specs.Answer.{IsAnswer}
 use Rattle.plan_tree.specs.Laws.{AreVariables}
-use Rattle.plan_tree.specs.Pages.{Page, IsRun, rows_in, steps_in, longest_in}
-use Rattle.plan_tree.proofs.Runs.{pages_join}
+use Rattle.plan_tree.specs.Pages.{Page, IsRun, AreQuanta, walked, rows_in, steps_in, longest_in}
+use Rattle.plan_tree.proofs.Runs.{pages_join, goes_round}
 use Rattle.plan_tree.proofs.Single.{pattern_rows, selected_answer}
 use Rattle.pattern_page.specs.Part.{part_text, part_plan}
 use Rattle.pattern_page.specs.Results.{cell, tabbed, header, line, counts_line, counts_text}
@@ -36,11 +36,11 @@ lines_kept : (names : List Name) (rows : List Row) → flat_map (line names) (ma
 lines_kept names [] = refl
 lines_kept names (row ∷ rows) = λ i. line_kept names row i ++ lines_kept names rows i
 
-pub answers_over : (triples : List Triple) (names : List Name) (pattern : Pattern) (quantum : ℕ) (out err : List ℕ) (pages : List Page) → 1 ≤ quantum → AreVariables names →
-    IsRun triples (part_plan pattern) (part_text pattern) (λ _. quantum) 0 0 pages → out ≡ header names ++ flat_map (line names) (rows_in pages) → err ≡ counts_text pages →
-    AnswersOver triples names pattern quantum out err
-answers_over triples names pattern quantum out err pages some variables run out_is err_is =
-    let whole = pages_join triples (part_plan pattern) (part_text pattern) (λ _. quantum) (λ k. some) pages run in
+pub answers_over : (triples : List Triple) (names : List Name) (pattern : Pattern) (quanta : List ℕ) (out err : List ℕ) (pages : List Page) → AreQuanta quanta → AreVariables names →
+    IsRun triples (part_plan pattern) (part_text pattern) (walked quanta) 0 0 pages → out ≡ header names ++ flat_map (line names) (rows_in pages) → err ≡ counts_text pages →
+    AnswersOver triples names pattern quanta out err
+answers_over triples names pattern quanta out err pages some variables run out_is err_is =
+    let whole = pages_join triples (part_plan pattern) (part_text pattern) (walked quanta) (goes_round quanta some).some pages run in
     let kept = (pattern_rows triples (pattern_of pattern) (names_in (pattern_of pattern))).whole (λ name is. is) in
     let answered = selected_answer triples (pattern_of pattern) names variables in
     record {

@@ -42,16 +42,16 @@ pub got_front : (T E : Type 0) (old new : Option (List ℕ)) (piece : List ℕ) 
 got_front T E None new piece r x is puts = tt
 got_front T E (Some old) new piece r x is puts = let front = subst (Puts (Some old) new piece) is puts in (front.0, front.2)
 
-module _ (document_name query_name : List ℕ) (quantum : ℕ) (files : Option Files) (read_document read_query : List ℕ)
+module _ (document_name query_name quanta : List ℕ) (files : Option Files) (read_document read_query : List ℕ)
     (whole : (document query : List ℕ) → TellsBoth files document_name query_name document query → (read_document ≡ take 268435457 document) × (read_query ≡ take 262145 query)) where
   -- an answer over what was read is one over the files
-  pub answers_whole : (out err : List ℕ) → Answers read_document read_query quantum out err → (document query : List ℕ) → TellsBoth files document_name query_name document query → Answers document query quantum out err
+  pub answers_whole : (out err : List ℕ) → Answers read_document read_query quanta out err → (document query : List ℕ) → TellsBoth files document_name query_name document query → Answers document query quanta out err
   answers_whole out err h document query told =
       let is = whole document query told in
-      answers_back document query quantum out err (subst (λ d. Answers d (take 262145 query) quantum out err) is.0 (subst (λ q. Answers read_document q quantum out err) is.1 h))
+      answers_back document query quanta out err (subst (λ d. Answers d (take 262145 query) quanta out err) is.0 (subst (λ q. Answers read_document q quanta out err) is.1 h))
 
   -- why what was read has no answer
-  pub not_answered : (e : Refusal) (before now : ℕ) (written : Option (List ℕ)) (out_faults : ℕ) → Answered (Err e) read_document read_query quantum → WhyEnded e document_name query_name quantum files before now written written out_faults out_faults
+  pub not_answered : (e : Refusal) (before now : ℕ) (written : Option (List ℕ)) (out_faults : ℕ) → Answered (Err e) read_document read_query quanta → WhyEnded e document_name query_name quanta files before now written written out_faults out_faults
   not_answered refusals.Memory before now written out_faults h = tt
   not_answered (refusals.File name) before now written out_faults h = absurd h
   not_answered refusals.Data before now written out_faults h = record { none = λ document query told. no_data_back document (subst NoData (whole document query told).0 h) }
@@ -68,7 +68,7 @@ told T E (Some old) new piece before now (Ok x) puts cause = inl puts
 told T E (Some old) new piece before now (Err e) puts cause = inr (cause.failed, (puts.0, puts.2))
 
 -- the words spell one command
-pub under : (words : List (List ℕ)) (command : Command) (P : List ℕ → List ℕ → ℕ → Type 0) → command_of words ≡ Some command → OfCommand command P → UnderCommand words P
+pub under : (words : List (List ℕ)) (command : Command) (P : List ℕ → List ℕ → List ℕ → Type 0) → command_of words ≡ Some command → OfCommand command P → UnderCommand words P
 under words command P is h d q n is2 =
     let same : Some command ≡ Some (Try d q n) = sym is ∙ is2 in
     let other : command ≡ Try d q n = cc in
@@ -79,9 +79,9 @@ pub told_counts : (old new : Option (List ℕ)) (piece err : List ℕ) (before n
 told_counts old new piece err before now is h = subst (λ p. IsTold old new p before now) is h
 
 -- why a query over triples was not read
-pub not_selected : (e : Refusal) (document query : List ℕ) (quantum : ℕ) (triples : List Triple) → IsData document triples → ReadsQuery (Err e) query → Answered (Err e) document query quantum
-not_selected refusals.Memory document query quantum triples is_data h = tt
-not_selected refusals.Query document query quantum triples is_data h = ((triples, is_data), h)
-not_selected refusals.Data document query quantum triples is_data h = absurd h
-not_selected (refusals.File name) document query quantum triples is_data h = absurd h
-not_selected refusals.Output document query quantum triples is_data h = absurd h
+pub not_selected : (e : Refusal) (document query quanta : List ℕ) (triples : List Triple) → IsData document triples → ReadsQuery (Err e) query → Answered (Err e) document query quanta
+not_selected refusals.Memory document query quanta triples is_data h = tt
+not_selected refusals.Query document query quanta triples is_data h = ((triples, is_data), h)
+not_selected refusals.Data document query quanta triples is_data h = absurd h
+not_selected (refusals.File name) document query quanta triples is_data h = absurd h
+not_selected refusals.Output document query quanta triples is_data h = absurd h

@@ -16,13 +16,13 @@ named_there files document_name query_name document query name told (inr is) lac
 abbrev Statuses : ℕ → Type 0
 Statuses status = (status ≡ 0) ⊎ (status ≡ 1) ⊎ (status ≡ 3) ⊎ (status ≡ 4) ⊎ (status ≡ 6) ⊎ (status ≡ 9)
 
-module _ (document_name query_name : List ℕ) (quantum : ℕ) (files : Option Files) (before now out_before out_now : ℕ) (out_old out_new err_old err_new : Option (List ℕ)) (err_before err_now status : ℕ)
+module _ (document_name query_name quanta : List ℕ) (files : Option Files) (before now out_before out_now : ℕ) (out_old out_new err_old err_new : Option (List ℕ)) (err_before err_now status : ℕ)
     (statuses : Statuses status)
-    (done : status ≡ 0 → IsTryDone document_name query_name quantum files out_old out_new err_old err_new err_before err_now)
+    (done : status ≡ 0 → IsTryDone document_name query_name quanta files out_old out_new err_old err_new err_before err_now)
     (file : status ≡ 3 → WhyTryFile document_name query_name files before now err_old err_new err_before err_now)
     (no_data : status ≡ 4 → WhyTryData document_name query_name files)
     (no_query : status ≡ 6 → WhyTryQuery document_name query_name files)
-    (output : status ≡ 9 → WhyTryOutput document_name query_name quantum files out_old out_new out_before out_now) where
+    (output : status ≡ 9 → WhyTryOutput document_name query_name quanta files out_old out_new out_before out_now) where
   not_file : (document query : List ℕ) → TellsBoth files document_name query_name document query → (Rose before now → ⊥) → status ≡ 3 → ⊥
   not_file document query told still is =
       let why = file is in

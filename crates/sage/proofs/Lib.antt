@@ -1,3 +1,4 @@
+pub mod Quanta
 pub mod Fronts
 pub mod Limits
 pub mod Ended

@@ -32,8 +32,8 @@ query_back text names pattern h = subst (λ bytes. IsQuery bytes names pattern) 
 query_on : (text : List ℕ) (names : List Name) (pattern : Pattern) → IsQuery text names pattern → IsQuery (take 262145 text) names pattern
 query_on text names pattern h = subst (λ bytes. IsQuery bytes names pattern) (sym (kept_whole 262144 text h.short)) h
 
-pub answers_back : (document query : List ℕ) (quantum : ℕ) (out err : List ℕ) → Answers (take 268435457 document) (take 262145 query) quantum out err → Answers document query quantum out err
-answers_back document query quantum out err h = record {
+pub answers_back : (document query quanta out err : List ℕ) → Answers (take 268435457 document) (take 262145 query) quanta out err → Answers document query quanta out err
+answers_back document query quanta out err h = record {
   triples = h.triples;
   is_data = data_back document h.triples h.is_data;
   names = h.names;

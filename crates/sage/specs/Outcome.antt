@@ -8,7 +8,7 @@ use Rattle.sage_outside.specs.Shelf.{Files, Lacks}
 use Rattle.sparql_tree.specs.Bgp.{pattern_of}
 use Rattle.sparql_tree.specs.Algebra.{Bgp}
 use Rattle.sparql_tree.specs.Answer.{IsAnswer}
-use Rattle.plan_tree.specs.Pages.{Page, IsRun, rows_in}
+use Rattle.plan_tree.specs.Pages.{Page, IsRun, walked, rows_in}
 use Rattle.sage.specs.declared.words.Command.{Command}
 use Rattle.sage.specs.declared.words.Command.TheVariants.{Try}
 use Rattle.sage.specs.Words.{command_of}
@@ -18,11 +18,11 @@ use Rattle.pattern_query.specs.Query.{IsQuery}
 use Rattle.pattern_page.specs.Part.{part_text, part_plan}
 use Rattle.pattern_page.specs.Results.{tsv_of, counts_text}
 
--- The answer over triples, in pages of so many steps: what is written to the output and to the errors.
-pub record AnswersOver (triples : List Triple) (names : List Name) (pattern : Pattern) (quantum : ℕ) (out err : List ℕ) : Type 0 where
+-- The answer over triples, in pages under quanta that are walked round: what is written to the output and to the errors.
+pub record AnswersOver (triples : List Triple) (names : List Name) (pattern : Pattern) (quanta : List ℕ) (out err : List ℕ) : Type 0 where
   -- the pages are those of the plan, followed from none to none
   pub pages : List Page
-  pub is_run : IsRun triples (part_plan pattern) (part_text pattern) (λ _. quantum) 0 0 pages
+  pub is_run : IsRun triples (part_plan pattern) (part_text pattern) (walked quanta) 0 0 pages
   -- the rows are the pages' rows, restricted to what is selected, and answer the query
   pub rows : List Row
   pub rows_are : rows ≡ map (restricted names) (rows_in pages)
@@ -31,13 +31,13 @@ pub record AnswersOver (triples : List Triple) (names : List Name) (pattern : Pa
   pub err_is : err ≡ counts_text pages
 
 -- The answer of a query over a document, from the bytes of both.
-pub record Answers (document query : List ℕ) (quantum : ℕ) (out err : List ℕ) : Type 0 where
+pub record Answers (document query quanta out err : List ℕ) : Type 0 where
   pub triples : List Triple
   pub is_data : IsData document triples
   pub names : List Name
   pub pattern : Pattern
   pub is_query : IsQuery query names pattern
-  pub over : AnswersOver triples names pattern quantum out err
+  pub over : AnswersOver triples names pattern quanta out err
 
 -- the bytes are no document within the limits
 abbrev pub NoData : List ℕ → Type 0
@@ -76,9 +76,9 @@ abbrev pub file_message : List ℕ → List ℕ
 file_message name = codes "sage: file " ++ (name ++ 10 ∷ [])
 
 -- The query was answered: over told files, the output has got the text of an answer, and the errors its counts.
-pub record IsTryDone (document_name query_name : List ℕ) (quantum : ℕ) (files : Option Files) (out_old out_new err_old err_new : Option (List ℕ)) (err_before err_now : ℕ) : Type 0 where
+pub record IsTryDone (document_name query_name quanta : List ℕ) (files : Option Files) (out_old out_new err_old err_new : Option (List ℕ)) (err_before err_now : ℕ) : Type 0 where
   pub answered : (document query : List ℕ) → TellsBoth files document_name query_name document query →
-      (out err : List ℕ) × Answers document query quantum out err × HasGot out_old out_new out × IsTold err_old err_new err err_before err_now
+      (out err : List ℕ) × Answers document query quanta out err × HasGot out_old out_new out × IsTold err_old err_new err err_before err_now
 
 -- A file was not read: the told shelf lacks one of the names unless its faults rose, and the message says which.
 pub record WhyTryFile (document_name query_name : List ℕ) (files : Option Files) (before now : ℕ) (err_old err_new : Option (List ℕ)) (err_before err_now : ℕ) : Type 0 where
@@ -97,10 +97,10 @@ pub record WhyTryQuery (document_name query_name : List ℕ) (files : Option Fil
   pub none : (document query : List ℕ) → TellsBoth files document_name query_name document query → NoQuery query
 
 -- The output failed: its faults rose, and over told files it has got a front of an answer's text.
-pub record WhyTryOutput (document_name query_name : List ℕ) (quantum : ℕ) (files : Option Files) (out_old out_new : Option (List ℕ)) (before now : ℕ) : Type 0 where
+pub record WhyTryOutput (document_name query_name quanta : List ℕ) (files : Option Files) (out_old out_new : Option (List ℕ)) (before now : ℕ) : Type 0 where
   pub rose : Rose before now
   pub front : (document query : List ℕ) → TellsBoth files document_name query_name document query →
-      (out err : List ℕ) × Answers document query quantum out err × HasGotFront out_old out_new out
+      (out err : List ℕ) × Answers document query quanta out err × HasGotFront out_old out_new out
 
 -- A document that is none within the limits gives 4 or want of memory, unless the shelf's faults rose.
 pub record RefusesData (document_name query_name : List ℕ) (files : Option Files) (before now status : ℕ) : Type 0 where
@@ -118,10 +118,10 @@ pub record IsComplete (document_name query_name : List ℕ) (files : Option File
       (triples : List Triple) → IsData document triples → (names : List Name) (pattern : Pattern) → IsQuery query names pattern →
       (Rose before now → ⊥) → (Rose out_before out_now → ⊥) → (status ≡ 0) ⊎ (status ≡ 1)
 
--- what holds of the names and the quantum of a command
-abbrev pub OfCommand : Command → (List ℕ → List ℕ → ℕ → Type 0) → Type 0
-OfCommand (Try document_name query_name quantum) P = P document_name query_name quantum
+-- what holds of the names and the quanta of a command
+abbrev pub OfCommand : Command → (List ℕ → List ℕ → List ℕ → Type 0) → Type 0
+OfCommand (Try document_name query_name quanta) P = P document_name query_name quanta
 
--- what holds of the names and the quantum of the command that the words spell
-abbrev pub UnderCommand : List (List ℕ) → (List ℕ → List ℕ → ℕ → Type 0) → Type 0
-UnderCommand words P = (document_name query_name : List ℕ) (quantum : ℕ) → command_of words ≡ Some (Try document_name query_name quantum) → P document_name query_name quantum
+-- what holds of the names and the quanta of the command that the words spell
+abbrev pub UnderCommand : List (List ℕ) → (List ℕ → List ℕ → List ℕ → Type 0) → Type 0
+UnderCommand words P = (document_name query_name quanta : List ℕ) → command_of words ≡ Some (Try document_name query_name quanta) → P document_name query_name quanta

@@ -38,13 +38,13 @@ ReadsQuery (Err (refusals.File name)) query = ⊥
 ReadsQuery (Err refusals.Output) query = ⊥
 
 -- what the bytes of both files give: an answer, or the first of them that is refused
-abbrev pub Answered : Result Answer Refusal → List ℕ → List ℕ → ℕ → Type 0
-Answered (Ok answer) document query quantum = Answers document query quantum answer.text.items (string_bytes answer.counts)
-Answered (Err refusals.Memory) document query quantum = Unit {0}
-Answered (Err refusals.Data) document query quantum = NoData document
-Answered (Err refusals.Query) document query quantum = ((triples : List Triple) × IsData document triples) × NoQuery query
-Answered (Err (refusals.File name)) document query quantum = ⊥
-Answered (Err refusals.Output) document query quantum = ⊥
+abbrev pub Answered : Result Answer Refusal → List ℕ → List ℕ → List ℕ → Type 0
+Answered (Ok answer) document query quanta = Answers document query quanta answer.text.items (string_bytes answer.counts)
+Answered (Err refusals.Memory) document query quanta = Unit {0}
+Answered (Err refusals.Data) document query quanta = NoData document
+Answered (Err refusals.Query) document query quanta = ((triples : List Triple) × IsData document triples) × NoQuery query
+Answered (Err (refusals.File name)) document query quanta = ⊥
+Answered (Err refusals.Output) document query quanta = ⊥
 
 -- the refusal of a file that was not read
 abbrev pub NamesFile : FileFault → List ℕ → Refusal → Type 0
@@ -82,17 +82,17 @@ WhyOneNotRead refusals.Query document_name query_name files before now = ⊥
 WhyOneNotRead refusals.Output document_name query_name files before now = ⊥
 
 -- The query was answered: over told files, the output has got the text of an answer with this line of counts.
-abbrev pub IsAnswered : List ℕ → List ℕ → ℕ → Option Files → Option (List ℕ) → Option (List ℕ) → List ℕ → Type 0
-IsAnswered document_name query_name quantum files out_old out_new counts =
+abbrev pub IsAnswered : List ℕ → List ℕ → List ℕ → Option Files → Option (List ℕ) → Option (List ℕ) → List ℕ → Type 0
+IsAnswered document_name query_name quanta files out_old out_new counts =
     (document query : List ℕ) → TellsBoth files document_name query_name document query →
-    (out : List ℕ) × Answers document query quantum out counts × HasGot out_old out_new out
+    (out : List ℕ) × Answers document query quanta out counts × HasGot out_old out_new out
 
 -- why the query was not answered
-abbrev pub WhyEnded : Refusal → List ℕ → List ℕ → ℕ → Option Files → ℕ → ℕ → Option (List ℕ) → Option (List ℕ) → ℕ → ℕ → Type 0
-WhyEnded refusals.Memory document_name query_name quantum files before now out_old out_new out_before out_now = Unit {0}
-WhyEnded (refusals.File name) document_name query_name quantum files before now out_old out_new out_before out_now =
+abbrev pub WhyEnded : Refusal → List ℕ → List ℕ → List ℕ → Option Files → ℕ → ℕ → Option (List ℕ) → Option (List ℕ) → ℕ → ℕ → Type 0
+WhyEnded refusals.Memory document_name query_name quanta files before now out_old out_new out_before out_now = Unit {0}
+WhyEnded (refusals.File name) document_name query_name quanta files before now out_old out_new out_before out_now =
     ((name ≡ document_name) ⊎ (name ≡ query_name)) × (Lacks files name ⊎ Rose before now)
-WhyEnded refusals.Data document_name query_name quantum files before now out_old out_new out_before out_now = WhyTryData document_name query_name files
-WhyEnded refusals.Query document_name query_name quantum files before now out_old out_new out_before out_now = WhyTryQuery document_name query_name files
-WhyEnded refusals.Output document_name query_name quantum files before now out_old out_new out_before out_now =
-    WhyTryOutput document_name query_name quantum files out_old out_new out_before out_now
+WhyEnded refusals.Data document_name query_name quanta files before now out_old out_new out_before out_now = WhyTryData document_name query_name files
+WhyEnded refusals.Query document_name query_name quanta files before now out_old out_new out_before out_now = WhyTryQuery document_name query_name files
+WhyEnded refusals.Output document_name query_name quanta files before now out_old out_new out_before out_now =
+    WhyTryOutput document_name query_name quanta files out_old out_new out_before out_now

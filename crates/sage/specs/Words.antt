@@ -1,6 +1,8 @@
 -- The words of the command line, and the command that they spell.
-use Rattle.std.specs.Prelude.{◌≡◌, ℕ, ◌+◌, ◌-◌, ◌*◌, ◌≤◌, ◌&&◌, not, ◌==◌, nat_le, List, [], ◌∷◌, length, Bool, Option, Some, None, IsSome, Result, Ok, Err, if◌then◌else◌, codes}
+use Rattle.std.specs.Prelude.{◌≡◌, ℕ, ◌+◌, ◌-◌, ◌*◌, ◌≤◌, ◌&&◌, not, ◌==◌, nat_le, List, [], ◌∷◌, length, All, Bool, Option, Some, None, IsSome, is_some, Result, Ok, Err, if◌then◌else◌, codes}
+use Rattle.std.specs.List.{slice_split, list_all, filter_map}
 use Rattle.std.specs.Str.{bytes_eq}
+use Rattle.plan_tree.specs.Pages.{AreQuanta}
 use Rattle.sage.specs.declared.words.Command.{Command}
 use Rattle.sage.specs.declared.words.Command.TheVariants.{Try}
 use Rattle.sage.specs.declared.words.WordsFault.{WordsFault}
@@ -24,20 +26,40 @@ abbrev pub quantum_of : List ℕ → Option ℕ
 quantum_of [] = None
 quantum_of (b ∷ bs) = if b == 48 then None else up_to_limit (value_on 0 (b ∷ bs))
 
+-- the texts between the commas of a word: one more than it has commas
+abbrev pub pieces_of : List ℕ → List (List ℕ)
+pieces_of word = slice_split (λ b. b == 44) word
+
+-- the pieces of what is left of a word
+abbrev pub pieces_left : Option (List ℕ) → List (List ℕ)
+pieces_left None = []
+pieces_left (Some rest) = pieces_of rest
+
+abbrev pub is_quantum : List ℕ → Bool
+is_quantum piece = is_some (quantum_of piece)
+
+-- a list of quanta: from 1 to 64 of them, with a comma between each two
+abbrev pub are_quanta : List ℕ → Bool
+are_quanta word = list_all is_quantum (pieces_of word) && nat_le (length (pieces_of word)) 64
+
+-- the quanta of such a list, in their order
+abbrev pub quanta_of : List ℕ → Option (List ℕ)
+quanta_of word = if are_quanta word then Some (filter_map quantum_of (pieces_of word)) else None
+
 abbrev pub is_empty : List ℕ → Bool
 is_empty word = length word == 0
 
--- `try` with the quantum that its option gives, if it gives one
-abbrev pub try_with : List ℕ → List ℕ → Option ℕ → Option Command
+-- `try` with the quanta that its option gives, if it gives some
+abbrev pub try_with : List ℕ → List ℕ → Option (List ℕ) → Option Command
 try_with document query None = None
-try_with document query (Some quantum) = Some (Try document query quantum)
+try_with document query (Some quanta) = Some (Try document query quanta)
 
--- no option, where the quantum is 1,000, or `--quanta` and a quantum
-abbrev pub quantum_from : List (List ℕ) → Option ℕ
-quantum_from [] = Some 1000
-quantum_from (option ∷ []) = None
-quantum_from (option ∷ value ∷ []) = if bytes_eq option (codes "--quanta") then quantum_of value else None
-quantum_from (option ∷ value ∷ more ∷ options) = None
+-- no option, where each page has 1,000 steps, or `--quanta` and a list of quanta
+abbrev pub quanta_from : List (List ℕ) → Option (List ℕ)
+quanta_from [] = Some (1000 ∷ [])
+quanta_from (option ∷ []) = None
+quanta_from (option ∷ value ∷ []) = if bytes_eq option (codes "--quanta") then quanta_of value else None
+quanta_from (option ∷ value ∷ more ∷ options) = None
 
 -- The command that the words spell: `try`, the names of the document and of the query, then the options.
 abbrev pub command_of : List (List ℕ) → Option Command
@@ -45,14 +67,20 @@ command_of [] = None
 command_of (word ∷ []) = None
 command_of (word ∷ document ∷ []) = None
 command_of (word ∷ document ∷ query ∷ options) =
-    if bytes_eq word (codes "try") && (not (is_empty document) && not (is_empty query)) then try_with document query (quantum_from options) else None
+    if bytes_eq word (codes "try") && (not (is_empty document) && not (is_empty query)) then try_with document query (quanta_from options) else None
 
--- what reading the words answers: the command, or that there is none; memory can run out only where there is one
-abbrev pub Spells : Result Command WordsFault → Option Command → Type 0
-Spells (Ok command) spelled = spelled ≡ Some command
+-- what reading words answers: what they spell, or that it is nothing; memory can run out only where it is something
+abbrev pub Spells : {T : Type 0} → Result T WordsFault → Option T → Type 0
+Spells (Ok x) spelled = spelled ≡ Some x
 Spells (Err faults.Words) spelled = spelled ≡ None
 Spells (Err faults.Memory) spelled = IsSome spelled
 
--- the quantum of a command is a number of steps from 1 to 10,000
-abbrev pub HasQuantum : Command → Type 0
-HasQuantum (Try document query quantum) = (1 ≤ quantum) × (quantum ≤ 10000)
+-- from 1 to 64 quanta, each from 1 to 10,000
+pub record AreWithinLimits (quanta : List ℕ) : Type 0 where
+  pub are : AreQuanta quanta
+  pub few : length quanta ≤ 64
+  pub short : All (λ quantum. quantum ≤ 10000) quanta
+
+-- the quanta of a command are within their limits
+abbrev pub HasQuanta : Command → Type 0
+HasQuanta (Try document query quanta) = AreWithinLimits quanta

@@ -3,6 +3,7 @@ ghost use Rattle.std.specs.Prelude.{◌≤◌, List, length, string_bytes, IfOk}
 ghost use Rattle.term_core.specs.declared.term.Triple.{Triple as Triples};
 ghost use Rattle.term_core.specs.declared.pattern.Pattern.{Pattern as Patterns};
 ghost use Rattle.plan_tree.specs.Laws.{AreVariables};
+ghost use Rattle.plan_tree.specs.Pages.{AreQuanta};
 ghost use Rattle.pattern_data.specs.Table.{IsTable, terms_in, ids_in};
 ghost use Rattle.pattern_page.specs.PagesOf.{IsPart, HasData, HasTriples};
 ghost use Rattle.sage.specs.Outcome.{AnswersOver};
@@ -59,56 +60,57 @@ fn read_select(alloc: Global, query: &[u8]) -> Result<SelectQuery, Refusal>
     }
 }
 
-/// The answer over a part, in pages of `quantum` steps.
-fn answer_part(alloc: Global, part: &Part, names: &[Text], quantum: u32) -> Result<Answer, Memory>
+/// The answer over a part, in pages of as many steps as the quanta say.
+fn answer_part(alloc: Global, part: &Part, names: &[Text], quanta: &[u32]) -> Result<Answer, Memory>
     requires data { HasData part.now }
-    requires some { 1 ≤ quantum }
+    requires some { AreQuanta quanta.now }
     requires variables { AreVariables names.now }
     ensures { (triples : List Triples) (pattern : Patterns) → IsPart triples pattern part.now
-        → IfOk result (λ answer. AnswersOver triples names.now pattern quantum answer.text.items (string_bytes answer.counts)) }
+        → IfOk result (λ answer. AnswersOver triples names.now pattern quanta.now answer.text.items (string_bytes answer.counts)) }
 {
     let mut text = Vec::new(alloc);
     push_header(&mut text, names)?;
-    let counts = follow_pages(alloc, part, names, quantum, &mut text)?;
+    let counts = follow_pages(alloc, part, names, quanta, &mut text)?;
     let counts = counts_text(alloc, counts)?;
     Ok(Answer { text, counts })
 }
 
-/// The answer over the data, in pages of `quantum` steps.
+/// The answer over the data, in pages of as many steps as the quanta say.
 fn answer_table(
     alloc: Global,
     table: &Table,
     select: &SelectQuery,
-    quantum: u32,
+    quanta: &[u32],
 ) -> Result<Answer, Memory>
     requires data { HasTriples table.now }
-    requires some { 1 ≤ quantum }
+    requires some { AreQuanta quanta.now }
     requires variables { AreVariables select.now.names }
     ensures { (triples : List Triples) → IsTable triples (terms_in table.now) (ids_in table.now)
-        → IfOk result (λ answer. AnswersOver triples select.now.names select.now.pattern quantum answer.text.items (string_bytes answer.counts)) }
+        → IfOk result (λ answer. AnswersOver triples select.now.names select.now.pattern quanta.now answer.text.items (string_bytes answer.counts)) }
 {
     let part = Part::new(alloc, table, &select.pattern)?;
-    answer_part(alloc, &part, select.names.as_slice(), quantum)
+    answer_part(alloc, &part, select.names.as_slice(), quanta)
 }
 
-/// The answer over triples, in pages of `quantum` steps.
+/// The answer over triples, in pages of as many steps as the quanta say.
 fn answer_over(
     alloc: Global,
     triples: &[Triple],
     select: &SelectQuery,
-    quantum: u32,
+    quanta: &[u32],
 ) -> Result<Answer, Memory>
     requires few { length triples.now ≤ 4194303 }
-    requires some { 1 ≤ quantum }
+    requires some { AreQuanta quanta.now }
     requires variables { AreVariables select.now.names }
-    ensures { IfOk result (λ answer. AnswersOver triples.now select.now.names select.now.pattern quantum answer.text.items (string_bytes answer.counts)) }
+    ensures { IfOk result (λ answer. AnswersOver triples.now select.now.names select.now.pattern quanta.now answer.text.items (string_bytes answer.counts)) }
 {
     let table = Table::build(alloc, triples)?;
-    answer_table(alloc, &table, select, quantum)
+    answer_table(alloc, &table, select, quanta)
 }
 
-/// Answers the query over the document, in pages of `quantum` steps, of which the first begins the
-/// plan and each other goes on from the bytes that the page before gave.
+/// Answers the query over the document, in pages of as many steps as the quanta say, which are walked
+/// round. The first page begins the plan, and each other goes on from the bytes that the page before
+/// gave.
 ///
 /// `Data` comes exactly where the document is refused, `Query` exactly where the document is not and
 /// the query is.
@@ -116,14 +118,14 @@ pub fn answer_query(
     alloc: Global,
     document: Vec<u8>,
     query: Vec<u8>,
-    quantum: u32,
+    quanta: &[u32],
 ) -> Result<Answer, Refusal>
-    requires { 1 ≤ quantum }
-    ensures { Answered result document.items query.items quantum }
+    requires { AreQuanta quanta.now }
+    ensures { Answered result document.items query.items quanta.now }
 {
     match read_data(alloc, document) {
         Ok(triples) => match read_select(alloc, &query) {
-            Ok(select) => match answer_over(alloc, triples.as_slice(), &select, quantum) {
+            Ok(select) => match answer_over(alloc, triples.as_slice(), &select, quanta) {
                 Ok(answer) => Ok(answer),
                 Err(_) => Err(Refusal::Memory),
             },

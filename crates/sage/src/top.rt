@@ -1,7 +1,8 @@
 // The top call.
 ghost use Rattle.std.specs.Prelude.{◌≡◌, ◌↔◌, ◌⊎◌, ◌≤◌, None, IfOk};
 ghost use Rattle.sage_outside.specs.Shelf.{Lacks};
-ghost use Rattle.sage.specs.Words.{command_of, HasQuantum};
+ghost use Rattle.plan_tree.specs.Pages.{AreQuanta};
+ghost use Rattle.sage.specs.Words.{command_of, HasQuanta};
 ghost use Rattle.sage.specs.Outcome.{IsTold, IsTryDone, WhyTryFile, WhyTryData, WhyTryQuery, WhyTryOutput, RefusesData, RefusesQuery, IsComplete, OfCommand, UnderCommand, message_of, file_message as message_of_file};
 
 use crate::answer::Refusal;
@@ -60,21 +61,21 @@ fn end_try<S: Shelf, O: Sink, E: Sink>(
     err: &mut E,
     document: &Text,
     query: &Text,
-    quantum: u32,
+    quanta: &[u32],
 ) -> u8
-    requires { 1 ≤ quantum }
+    requires { AreQuanta quanta.now }
     ensures same { S.files shelf.new ≡ S.files shelf.old }
-    ensures done { result ≡ 0 → IsTryDone document.now query.now quantum (S.files shelf.old) (O.written out.old) (O.written out.new) (E.written err.old) (E.written err.new) (E.faults err.old) (E.faults err.new) }
+    ensures done { result ≡ 0 → IsTryDone document.now query.now quanta.now (S.files shelf.old) (O.written out.old) (O.written out.new) (E.written err.old) (E.written err.new) (E.faults err.old) (E.faults err.new) }
     ensures file { result ≡ 3 → WhyTryFile document.now query.now (S.files shelf.old) (S.faults shelf.old) (S.faults shelf.new) (E.written err.old) (E.written err.new) (E.faults err.old) (E.faults err.new) }
     ensures no_data { result ≡ 4 → WhyTryData document.now query.now (S.files shelf.old) }
     ensures no_query { result ≡ 6 → WhyTryQuery document.now query.now (S.files shelf.old) }
-    ensures output { result ≡ 9 → WhyTryOutput document.now query.now quantum (S.files shelf.old) (O.written out.old) (O.written out.new) (O.faults out.old) (O.faults out.new) }
+    ensures output { result ≡ 9 → WhyTryOutput document.now query.now quanta.now (S.files shelf.old) (O.written out.old) (O.written out.new) (O.faults out.old) (O.faults out.new) }
     ensures there { Lacks (S.files shelf.old) document.now ⊎ Lacks (S.files shelf.old) query.now → (result ≡ 3) ⊎ (result ≡ 1) }
     ensures statuses { (result ≡ 0) ⊎ (result ≡ 1) ⊎ (result ≡ 3) ⊎ (result ≡ 4) ⊎ (result ≡ 6) ⊎ (result ≡ 9) }
     ensures unwritten { (result ≡ 0 → ⊥) → (result ≡ 9 → ⊥) → O.written out.new ≡ O.written out.old }
     ensures message { (result ≡ 0 → ⊥) → (result ≡ 3 → ⊥) → IsTold (E.written err.old) (E.written err.new) (message_of result) (E.faults err.old) (E.faults err.new) }
 {
-    match try_query(alloc, shelf, out, document, query, quantum) {
+    match try_query(alloc, shelf, out, document, query, quanta) {
         Ok(counts) => {
             say(err, counts.as_bytes());
             0
@@ -95,15 +96,15 @@ fn run_try<S: Shelf, O: Sink, E: Sink>(
     err: &mut E,
     document: &Text,
     query: &Text,
-    quantum: u32,
+    quanta: &[u32],
 ) -> u8
-    requires { 1 ≤ quantum }
+    requires { AreQuanta quanta.now }
     ensures same { S.files shelf.new ≡ S.files shelf.old }
-    ensures done { result ≡ 0 → IsTryDone document.now query.now quantum (S.files shelf.old) (O.written out.old) (O.written out.new) (E.written err.old) (E.written err.new) (E.faults err.old) (E.faults err.new) }
+    ensures done { result ≡ 0 → IsTryDone document.now query.now quanta.now (S.files shelf.old) (O.written out.old) (O.written out.new) (E.written err.old) (E.written err.new) (E.faults err.old) (E.faults err.new) }
     ensures file { result ≡ 3 → WhyTryFile document.now query.now (S.files shelf.old) (S.faults shelf.old) (S.faults shelf.new) (E.written err.old) (E.written err.new) (E.faults err.old) (E.faults err.new) }
     ensures no_data { result ≡ 4 → WhyTryData document.now query.now (S.files shelf.old) }
     ensures no_query { result ≡ 6 → WhyTryQuery document.now query.now (S.files shelf.old) }
-    ensures output { result ≡ 9 → WhyTryOutput document.now query.now quantum (S.files shelf.old) (O.written out.old) (O.written out.new) (O.faults out.old) (O.faults out.new) }
+    ensures output { result ≡ 9 → WhyTryOutput document.now query.now quanta.now (S.files shelf.old) (O.written out.old) (O.written out.new) (O.faults out.old) (O.faults out.new) }
     ensures there { Lacks (S.files shelf.old) document.now ⊎ Lacks (S.files shelf.old) query.now → (result ≡ 3) ⊎ (result ≡ 1) }
     ensures statuses { (result ≡ 0) ⊎ (result ≡ 1) ⊎ (result ≡ 3) ⊎ (result ≡ 4) ⊎ (result ≡ 6) ⊎ (result ≡ 9) }
     ensures unwritten { (result ≡ 0 → ⊥) → (result ≡ 9 → ⊥) → O.written out.new ≡ O.written out.old }
@@ -112,7 +113,7 @@ fn run_try<S: Shelf, O: Sink, E: Sink>(
     ensures refuses_query { RefusesQuery document.now query.now (S.files shelf.old) (S.faults shelf.old) (S.faults shelf.new) result }
     ensures complete { IsComplete document.now query.now (S.files shelf.old) (S.faults shelf.old) (S.faults shelf.new) (O.faults out.old) (O.faults out.new) result }
 {
-    end_try(alloc, shelf, out, err, document, query, quantum)
+    end_try(alloc, shelf, out, err, document, query, quanta)
 }
 
 /// Runs a command.
@@ -123,27 +124,27 @@ fn run_command<S: Shelf, O: Sink, E: Sink>(
     err: &mut E,
     command: &Command,
 ) -> u8
-    requires { HasQuantum command.now }
+    requires { HasQuanta command.now }
     ensures same { S.files shelf.new ≡ S.files shelf.old }
-    ensures done { result ≡ 0 → OfCommand command.now (λ document query quantum. IsTryDone document query quantum (S.files shelf.old) (O.written out.old) (O.written out.new) (E.written err.old) (E.written err.new) (E.faults err.old) (E.faults err.new)) }
-    ensures file { result ≡ 3 → OfCommand command.now (λ document query quantum. WhyTryFile document query (S.files shelf.old) (S.faults shelf.old) (S.faults shelf.new) (E.written err.old) (E.written err.new) (E.faults err.old) (E.faults err.new)) }
-    ensures no_file { OfCommand command.now (λ document query quantum. Lacks (S.files shelf.old) document ⊎ Lacks (S.files shelf.old) query → (result ≡ 3) ⊎ (result ≡ 1)) }
-    ensures no_data { result ≡ 4 → OfCommand command.now (λ document query quantum. WhyTryData document query (S.files shelf.old)) }
-    ensures no_query { result ≡ 6 → OfCommand command.now (λ document query quantum. WhyTryQuery document query (S.files shelf.old)) }
-    ensures output { result ≡ 9 → OfCommand command.now (λ document query quantum. WhyTryOutput document query quantum (S.files shelf.old) (O.written out.old) (O.written out.new) (O.faults out.old) (O.faults out.new)) }
+    ensures done { result ≡ 0 → OfCommand command.now (λ document query quanta. IsTryDone document query quanta (S.files shelf.old) (O.written out.old) (O.written out.new) (E.written err.old) (E.written err.new) (E.faults err.old) (E.faults err.new)) }
+    ensures file { result ≡ 3 → OfCommand command.now (λ document query quanta. WhyTryFile document query (S.files shelf.old) (S.faults shelf.old) (S.faults shelf.new) (E.written err.old) (E.written err.new) (E.faults err.old) (E.faults err.new)) }
+    ensures no_file { OfCommand command.now (λ document query quanta. Lacks (S.files shelf.old) document ⊎ Lacks (S.files shelf.old) query → (result ≡ 3) ⊎ (result ≡ 1)) }
+    ensures no_data { result ≡ 4 → OfCommand command.now (λ document query quanta. WhyTryData document query (S.files shelf.old)) }
+    ensures no_query { result ≡ 6 → OfCommand command.now (λ document query quanta. WhyTryQuery document query (S.files shelf.old)) }
+    ensures output { result ≡ 9 → OfCommand command.now (λ document query quanta. WhyTryOutput document query quanta (S.files shelf.old) (O.written out.old) (O.written out.new) (O.faults out.old) (O.faults out.new)) }
     ensures statuses { (result ≡ 0) ⊎ (result ≡ 1) ⊎ (result ≡ 3) ⊎ (result ≡ 4) ⊎ (result ≡ 6) ⊎ (result ≡ 9) }
     ensures unwritten { (result ≡ 0 → ⊥) → (result ≡ 9 → ⊥) → O.written out.new ≡ O.written out.old }
     ensures message { (result ≡ 0 → ⊥) → (result ≡ 3 → ⊥) → IsTold (E.written err.old) (E.written err.new) (message_of result) (E.faults err.old) (E.faults err.new) }
-    ensures refuses_data { OfCommand command.now (λ document query quantum. RefusesData document query (S.files shelf.old) (S.faults shelf.old) (S.faults shelf.new) result) }
-    ensures refuses_query { OfCommand command.now (λ document query quantum. RefusesQuery document query (S.files shelf.old) (S.faults shelf.old) (S.faults shelf.new) result) }
-    ensures complete { OfCommand command.now (λ document query quantum. IsComplete document query (S.files shelf.old) (S.faults shelf.old) (S.faults shelf.new) (O.faults out.old) (O.faults out.new) result) }
+    ensures refuses_data { OfCommand command.now (λ document query quanta. RefusesData document query (S.files shelf.old) (S.faults shelf.old) (S.faults shelf.new) result) }
+    ensures refuses_query { OfCommand command.now (λ document query quanta. RefusesQuery document query (S.files shelf.old) (S.faults shelf.old) (S.faults shelf.new) result) }
+    ensures complete { OfCommand command.now (λ document query quanta. IsComplete document query (S.files shelf.old) (S.faults shelf.old) (S.faults shelf.new) (O.faults out.old) (O.faults out.new) result) }
 {
     match command {
         Command::Try {
             document,
             query,
-            quantum,
-        } => run_try(alloc, shelf, out, err, document, query, *quantum),
+            quanta,
+        } => run_try(alloc, shelf, out, err, document, query, quanta.as_slice()),
     }
 }
 
@@ -164,22 +165,22 @@ pub fn run<S: Shelf, L: Link, D: Door, O: Sink, E: Sink>(
     err: &mut E,
 ) -> u8
     ensures statuses { (result ≡ 0) ⊎ (result ≡ 1) ⊎ (result ≡ 2) ⊎ (result ≡ 3) ⊎ (result ≡ 4) ⊎ (result ≡ 6) ⊎ (result ≡ 9) }
-    ensures done { result ≡ 0 → UnderCommand words.now (λ document query quantum. IsTryDone document query quantum (S.files shelf.old)
+    ensures done { result ≡ 0 → UnderCommand words.now (λ document query quanta. IsTryDone document query quanta (S.files shelf.old)
         (O.written out.old) (O.written out.new) (E.written err.old) (E.written err.new) (E.faults err.old) (E.faults err.new)) }
     ensures words { (result ≡ 2) ↔ (command_of words.now ≡ None) }
-    ensures file { result ≡ 3 → UnderCommand words.now (λ document query quantum. WhyTryFile document query (S.files shelf.old)
+    ensures file { result ≡ 3 → UnderCommand words.now (λ document query quanta. WhyTryFile document query (S.files shelf.old)
         (S.faults shelf.old) (S.faults shelf.new) (E.written err.old) (E.written err.new) (E.faults err.old) (E.faults err.new)) }
-    ensures no_file { UnderCommand words.now (λ document query quantum.
+    ensures no_file { UnderCommand words.now (λ document query quanta.
         Lacks (S.files shelf.old) document ⊎ Lacks (S.files shelf.old) query → (result ≡ 3) ⊎ (result ≡ 1)) }
-    ensures document { result ≡ 4 → UnderCommand words.now (λ document query quantum. WhyTryData document query (S.files shelf.old)) }
-    ensures query { result ≡ 6 → UnderCommand words.now (λ document query quantum. WhyTryQuery document query (S.files shelf.old)) }
-    ensures output { result ≡ 9 → UnderCommand words.now (λ document query quantum. WhyTryOutput document query quantum (S.files shelf.old)
+    ensures document { result ≡ 4 → UnderCommand words.now (λ document query quanta. WhyTryData document query (S.files shelf.old)) }
+    ensures query { result ≡ 6 → UnderCommand words.now (λ document query quanta. WhyTryQuery document query (S.files shelf.old)) }
+    ensures output { result ≡ 9 → UnderCommand words.now (λ document query quanta. WhyTryOutput document query quanta (S.files shelf.old)
         (O.written out.old) (O.written out.new) (O.faults out.old) (O.faults out.new)) }
-    ensures refuses_document { UnderCommand words.now (λ document query quantum.
+    ensures refuses_document { UnderCommand words.now (λ document query quanta.
         RefusesData document query (S.files shelf.old) (S.faults shelf.old) (S.faults shelf.new) result) }
-    ensures refuses_query { UnderCommand words.now (λ document query quantum.
+    ensures refuses_query { UnderCommand words.now (λ document query quanta.
         RefusesQuery document query (S.files shelf.old) (S.faults shelf.old) (S.faults shelf.new) result) }
-    ensures complete { UnderCommand words.now (λ document query quantum.
+    ensures complete { UnderCommand words.now (λ document query quanta.
         IsComplete document query (S.files shelf.old) (S.faults shelf.old) (S.faults shelf.new) (O.faults out.old) (O.faults out.new) result) }
     ensures message { (result ≡ 0 → ⊥) → (result ≡ 3 → ⊥) → IsTold (E.written err.old) (E.written err.new) (message_of result) (E.faults err.old) (E.faults err.new) }
     ensures unwritten { (result ≡ 0 → ⊥) → (result ≡ 9 → ⊥) → O.written out.new ≡ O.written out.old }

@@ -1,9 +1,10 @@
 // The words of the command line.
-ghost use Rattle.std.specs.Prelude.{◌≡◌, ◌≤◌, Some, IfOk, IfSome, length};
-ghost use Rattle.sage.specs.Words.{is_digit, value_on, quantum_of, quantum_from, command_of, Spells, HasQuantum};
+ghost use Rattle.std.specs.Prelude.{◌≡◌, ◌<◌, [], ◌∷◌, length, Some, IfOk, IfSome, option_map};
+ghost use Rattle.std.specs.List.{filter_map};
+ghost use Rattle.sage.specs.Words.{is_digit, value_on, quantum_of, pieces_of, pieces_left, are_quanta, quanta_of, quanta_from, command_of, Spells, AreWithinLimits, HasQuanta};
 
 use std::alloc::Global;
-use term_core::{Memory, Text};
+use term_core::{Items, Memory, Text};
 
 /// How many steps a page may take where the words do not say.
 const DEFAULT_QUANTUM: u32 = 1000;
@@ -11,14 +12,18 @@ const DEFAULT_QUANTUM: u32 = 1000;
 /// The most steps that a page may take.
 const MOST_STEPS: u32 = 10_000;
 
+/// The most quanta of a list.
+const MOST_QUANTA: u32 = 64;
+
 /// What the command line asks for.
 #[derive(Debug, Drop)]
 pub enum Command {
-    /// Answers a query over a document, both files named by words, in pages of `quantum` steps.
+    /// Answers a query over a document, both files named by words, in pages of as many steps as the
+    /// quanta say, one after the other and then from the first again.
     Try {
         document: Text,
         query: Text,
-        quantum: u32,
+        quanta: Items<u32>,
     },
 }
 
@@ -63,8 +68,7 @@ fn value(digits: &[u8]) -> Option<u32>
 }
 
 fn quantum(word: &[u8]) -> Option<u32>
-    ensures exact { result ≡ quantum_of word.now }
-    ensures range { IfSome result (λ n. (1 ≤ n) × (n ≤ 10000)) }
+    ensures { result ≡ quantum_of word.now }
 {
     match word {
         [] => None,
@@ -76,20 +80,84 @@ fn quantum(word: &[u8]) -> Option<u32>
     }
 }
 
-fn quantum_among(options: &[Text]) -> Option<u32>
-    ensures exact { result ≡ quantum_from options.now }
-    ensures range { IfSome result (λ n. (1 ≤ n) × (n ≤ 10000)) }
+/// What stands before the first comma, and what stands behind it if there is one.
+fn cut_at_comma(word: &str) -> (&str, Option<&str>)
+    ensures pieces { pieces_of word.now ≡ result.0.now ∷ pieces_left (option_map (λ rest. rest.now) result.1) }
+    ensures shorter { IfSome result.1 (λ rest. length rest.now < length word.now) }
+{
+    match word.split_once(',') {
+        Some((piece, rest)) => (piece, Some(rest)),
+        None => (word, None),
+    }
+}
+
+/// Whether a word is a list of quanta.
+fn are_quanta(word: &str) -> bool
+    ensures { result ≡ are_quanta word.now }
+{
+    let mut count = 0;
+    let mut left = Some(word);
+    'pieces: while let Some(word) = left {
+        let (piece, rest) = cut_at_comma(word);
+        if count == MOST_QUANTA || quantum(piece.as_bytes()).is_none() {
+            return false;
+        }
+        count += 1;
+        left = rest;
+    }
+    true
+}
+
+/// The quanta that the pieces of a word spell.
+fn read_quanta(alloc: Global, word: &str) -> Result<Items<u32>, Memory>
+    ensures { IfOk result (λ quanta. quanta ≡ filter_map quantum_of (pieces_of word.now)) }
+{
+    let mut quanta = Items::new(alloc);
+    let mut left = Some(word);
+    'pieces: while let Some(word) = left {
+        let (piece, rest) = cut_at_comma(word);
+        if let Some(steps) = quantum(piece.as_bytes()) {
+            quanta.push(steps)?;
+        }
+        left = rest;
+    }
+    Ok(quanta)
+}
+
+fn default_quanta(alloc: Global) -> Result<Items<u32>, Memory>
+    ensures { IfOk result (λ quanta. quanta ≡ 1000 ∷ []) }
+{
+    let mut quanta = Items::new(alloc);
+    quanta.push(DEFAULT_QUANTUM)?;
+    Ok(quanta)
+}
+
+/// The quanta of a list. The list is tried before memory is taken for it.
+fn list_of(alloc: Global, word: &str) -> Result<Items<u32>, WordsFault>
+    ensures exact { Spells result (quanta_of word.now) }
+    ensures range { IfOk result AreWithinLimits }
+{
+    if are_quanta(word) {
+        Ok(read_quanta(alloc, word)?)
+    } else {
+        Err(WordsFault::Words)
+    }
+}
+
+fn quanta_among(alloc: Global, options: &[Text]) -> Result<Items<u32>, WordsFault>
+    ensures exact { Spells result (quanta_from options.now) }
+    ensures range { IfOk result AreWithinLimits }
 {
     match options {
-        [] => Some(DEFAULT_QUANTUM),
+        [] => Ok(default_quanta(alloc)?),
         [option, word] => {
             if option.bytes() == b"--quanta".as_slice() {
-                quantum(word.bytes())
+                list_of(alloc, word.as_str())
             } else {
-                None
+                Err(WordsFault::Words)
             }
         }
-        _ => None,
+        _ => Err(WordsFault::Words),
     }
 }
 
@@ -97,37 +165,36 @@ fn make_try(
     alloc: Global,
     document: &Text,
     query: &Text,
-    quantum: u32,
+    quanta: Items<u32>,
 ) -> Result<Command, WordsFault>
-    requires { (1 ≤ quantum) × (quantum ≤ 10000) }
-    ensures exact { Spells result (Some (Command.Try document.now query.now quantum)) }
-    ensures range { IfOk result HasQuantum }
+    requires { AreWithinLimits quanta }
+    ensures exact { Spells result (Some (Command.Try document.now query.now quanta)) }
+    ensures range { IfOk result HasQuanta }
 {
     let document = document.copy(alloc)?;
     let query = query.copy(alloc)?;
     Ok(Command::Try {
         document,
         query,
-        quantum,
+        quanta,
     })
 }
 
 /// Reads the words that follow the program's name.
 ///
 /// `Words` comes exactly where they spell no command: a word is missing, unknown, empty where a
-/// name is wanted, or repeated, or a number is not spelled in plain decimal digits within its limits.
+/// name is wanted, or repeated, or the quanta are not from 1 to 64 numbers in plain decimal digits, each
+/// from 1 to 10,000, with a comma between each two.
 pub fn read_words(alloc: Global, words: &[Text]) -> Result<Command, WordsFault>
     ensures exact { Spells result (command_of words.now) }
-    ensures range { IfOk result HasQuantum }
+    ensures range { IfOk result HasQuanta }
 {
     match words {
         [word, document, query, options @ ..] => {
             let is_try = word.bytes() == b"try".as_slice();
             if is_try && !document.bytes().is_empty() && !query.bytes().is_empty() {
-                match quantum_among(options) {
-                    Some(quantum) => make_try(alloc, document, query, quantum),
-                    None => Err(WordsFault::Words),
-                }
+                let quanta = quanta_among(alloc, options)?;
+                make_try(alloc, document, query, quanta)
             } else {
                 Err(WordsFault::Words)
             }

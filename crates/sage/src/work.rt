@@ -1,6 +1,7 @@
 // The work of a command: its files are read and answered, and the answer is put out.
 ghost use Rattle.std.specs.Prelude.{string_bytes, ◌≡◌, ◌≤◌, ◌<◌, ◌+◌, ◌^◌, ◌⊎◌, ℕ, List, take, OnOk, IfErr, IfOk};
 ghost use Rattle.sage_outside.specs.Shelf.{Lacks};
+ghost use Rattle.plan_tree.specs.Pages.{AreQuanta};
 ghost use Rattle.sage.specs.Told.{Tells};
 ghost use Rattle.sage.specs.Outcome.{TellsBoth};
 ghost use Rattle.sage.specs.Refusals.{NamesFile, WhyNotRead, WhyOneNotRead, IsUnread, IsAnswered, WhyEnded};
@@ -88,17 +89,17 @@ pub fn try_query<S: Shelf, O: Sink>(
     out: &mut O,
     document: &Text,
     query: &Text,
-    quantum: u32,
+    quanta: &[u32],
 ) -> Result<String, Refusal>
-    requires { 1 ≤ quantum }
+    requires { AreQuanta quanta.now }
     ensures same { S.files shelf.new ≡ S.files shelf.old }
-    ensures done { IfOk result (λ counts. IsAnswered document.now query.now quantum (S.files shelf.old) (O.written out.old) (O.written out.new) (string_bytes counts)) }
-    ensures why { IfErr result (λ e. WhyEnded e document.now query.now quantum (S.files shelf.old) (S.faults shelf.old) (S.faults shelf.new) (O.written out.old) (O.written out.new) (O.faults out.old) (O.faults out.new)) }
+    ensures done { IfOk result (λ counts. IsAnswered document.now query.now quanta.now (S.files shelf.old) (O.written out.old) (O.written out.new) (string_bytes counts)) }
+    ensures why { IfErr result (λ e. WhyEnded e document.now query.now quanta.now (S.files shelf.old) (S.faults shelf.old) (S.faults shelf.new) (O.written out.old) (O.written out.new) (O.faults out.old) (O.faults out.new)) }
     ensures unwritten { IfErr result (λ e. (e ≡ Refusal.Output → ⊥) → O.written out.new ≡ O.written out.old) }
     ensures there { Lacks (S.files shelf.old) document.now ⊎ Lacks (S.files shelf.old) query.now → IsUnread result }
 {
     match read_both(alloc, shelf, document, query) {
-        Ok(inputs) => match answer_query(alloc, inputs.document, inputs.query, quantum) {
+        Ok(inputs) => match answer_query(alloc, inputs.document, inputs.query, quanta) {
             Ok(answer) => match out.put(&answer.text) {
                 Ok(()) => Ok(answer.counts),
                 Err(_) => Err(Refusal::Output),

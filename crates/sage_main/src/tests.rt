@@ -111,6 +111,9 @@ fn two_objects_by_every_quantum(rt: HostRuntime) -> Result<(), Unready> {
         ("5", "pages 1 steps 5 longest 0\n"),
         ("6", "pages 1 steps 5 longest 0\n"),
         ("10000", "pages 1 steps 5 longest 0\n"),
+        ("1,2", "pages 4 steps 5 longest 84\n"),
+        ("1,4", "pages 2 steps 5 longest 72\n"),
+        ("1,1,2", "pages 4 steps 5 longest 84\n"),
     ] {
         let words = ["try", "d.nt", "q.rq", "--quanta", quantum];
         let outcome = run_over(rt.alloc(), TWO.as_bytes(), OBJECTS.as_bytes(), &words, &[])?;

@@ -7,7 +7,7 @@ pub const VERSION: &str = "sage 0.1.0\n";
 pub const USAGE: &str = "sage: a SPARQL query server that can be interrupted, with its client
 
 Usage:
-  sage try DATA QUERY [--quanta Q]
+  sage try DATA QUERY [--quanta Q,..]
   sage --help
   sage --version
 
@@ -18,7 +18,8 @@ Commands:
          the length in bytes of the longest suspended plan.
 
 Options of try:
-  --quanta Q    steps of one page, 1 to 10000 (default 1000)
+  --quanta Q,..    steps of each page: from 1 to 64 numbers from 1 to 10000,
+                   walked round (default 1000)
 
 Example:
   sage try examples/catalogue.nt examples/works-of-euler.rq --quanta 2

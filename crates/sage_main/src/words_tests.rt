@@ -17,6 +17,26 @@ fn commands(rt: HostRuntime) -> Result<(), Unready> {
     Ok(())
 }
 
+/// A list of so many numbers, each 1.
+fn ones(alloc: Global, count: usize) -> Result<String, Unready> {
+    let mut list = String::from_str(alloc, "1")?;
+    for _ in 1..count {
+        list.push_str(",1")?;
+    }
+    Ok(list)
+}
+
+#[test]
+fn lists_of_quanta(rt: HostRuntime) -> Result<(), Unready> {
+    for (count, status) in [(2, 0), (63, 0), (64, 0), (65, 2), (128, 2)] {
+        let list = ones(rt.alloc(), count)?;
+        let words = ["try", "d.nt", "q.rq", "--quanta", list.as_str()];
+        let outcome = run_over(rt.alloc(), DOCUMENT, QUERY, &words, &[])?;
+        assert_eq!(rt; outcome.status, status, "{count}");
+    }
+    Ok(())
+}
+
 #[test]
 fn no_quanta(rt: HostRuntime) -> Result<(), Unready> {
     for quantum in [
@@ -24,7 +44,18 @@ fn no_quanta(rt: HostRuntime) -> Result<(), Unready> {
         "0",
         "00",
         "01",
-        "1,2",
+        ",",
+        "1,,2",
+        ",1",
+        "1,",
+        "1, 2",
+        "1 ,2",
+        "1;2",
+        "1,0",
+        "0,1",
+        "1,01",
+        "1,10001",
+        "10001,1",
         "10001",
         "10010",
         "99999",

@@ -6,4 +6,4 @@ use Rattle.pattern_page.specs.Followed.{IsWalked}
 use Rattle.pattern_page.proofs.follow.follow_pages.Given as goal
 
 abbrev pub invariant-pages : goal.invariant-pages
-invariant-pages l = (D : List Triple) (pattern : Pattern) → IsPart D pattern l.part → IsWalked D pattern l.quantum l.names l.counter l.walk l.initial.out.items l.out.items
+invariant-pages l = (D : List Triple) (pattern : Pattern) → IsPart D pattern l.part → IsWalked D pattern l.quanta l.names l.page l.walk l.initial.out.items l.out.items

@@ -1,7 +1,7 @@
 use Rattle.std.proofs.Common.{◌≡◌, [], ◌∷◌, ◌++◌, subst, arith}
 use Rattle.std.proofs.lemmas.Grind.{common_steps}
 use Rattle.pattern_query.specs.QueryReading.{tokens_there, tokens_of, with_front}
-use Rattle.pattern_query.proofs.QueryTokens.{token_shorter, goes_further, goes_wrong, all_read}
+use Rattle.pattern_query.proofs.QueryTokens.{token_shorter, goes_further, fault_kept, all_read}
 use Rattle.pattern_query.proofs.query_text.read_tokens.Goals as goal
 
 pub tokens-smaller : goal.tokens-smaller
@@ -9,11 +9,10 @@ tokens-smaller c =
     let short = token_shorter c.tokens.left.now _ c.in-Ok.ensures in
     grind (arith, short, c.skip_spaces-left-in-tokens.ensures.rest)
 
-pub returns-in-Err-Form : goal.returns-in-Err-Form
-returns-in-Err-Form c =
+pub returns-in-Err : goal.returns-in-Err
+returns-in-Err c =
     let some : c.tokens.left.now ≡ [] → ⊥ = λ e. grind (arith, common_steps) in
-    let none = rw c.in-Err-Form.field-0-is at c.in-Err-Form.ensures in
-    goes_wrong c.tokens.left.now c.tokens.tokens _ some none c.tokens.invariant
+    fault_kept c.in-Err.fault c.tokens.left.now c.tokens.tokens _ some c.in-Err.ensures c.tokens.invariant
 
 pub tokens-preserved : goal.tokens-preserved
 tokens-preserved c =

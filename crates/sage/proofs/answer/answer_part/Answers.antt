@@ -8,6 +8,6 @@ use Rattle.sage.proofs.answer.answer_part.Goals as goal
 pub returns : goal.returns
 returns c triples pattern is_part =
     let followed = c.in_ok-counts.ensures triples pattern is_part in
-    answers_over triples c.args.names.now pattern c.args.quantum _ _ followed.pages c.requires.some c.requires.variables followed.run
+    answers_over triples c.args.names.now pattern c.args.quanta.now _ _ followed.pages c.requires.some c.requires.variables followed.run
     (followed.are.lines_are ∙ ap (λ text. text ++ flat_map (line c.args.names.now) (rows_in followed.pages)) (c.in_ok-push_header.ensures ∙ ap (λ text. text ++ header c.args.names.now) c.new-text.ensures.items))
     (c.in_ok-counts-2.ensures ∙ counted_pages _ _ _ followed.pages followed.are.pages_are followed.are.steps_are followed.are.longest_are)

@@ -1,7 +1,6 @@
 use Rattle.std.proofs.Common.{◌≡◌, ◌++◌, take, drop}
-use Rattle.nt_text.specs.Characters.{front, after}
-use Rattle.pattern_query.specs.Query.{is_in}
-use Rattle.pattern_query.proofs.query_text.span.Given as goal
+use Rattle.pattern_query.specs.Terminals.{is_in, front, after}
+use Rattle.pattern_query.proofs.terminals.span.Given as goal
 
 abbrev pub invariant-loop-i : goal.invariant-loop-i
 invariant-loop-i l = record {
