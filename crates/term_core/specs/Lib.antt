@@ -8,3 +8,5 @@ pub mod Texts
 pub mod Characters
 pub mod Escapes
 pub mod Names
+pub mod Terminals
+pub mod Tokens
