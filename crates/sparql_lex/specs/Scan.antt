@@ -19,14 +19,16 @@ abbrev pub run : (ℕ → Bool) → List ℕ → ℕ
 run p [] = 0
 run p (c ∷ text) = cond (p c) (suc (run p text)) 0
 
+-- what the next state leads to, if there is one
+abbrev pub with_next : Option State → (State → Found) → Found → Found
+with_next None go found = found
+with_next (Some next) go found = go next
+
 -- what is found in the end, if the state came by so many characters and this was found so far
 abbrev pub scan : List ℕ → State → ℕ → Found → Found
 scan [] state n found = found
-scan (c ∷ text) state n found = goes_on (step state c)
-  where
-    goes_on : Option State → Found
-    goes_on None = found
-    goes_on (Some next) = scan text next (suc n) (or_found (kind_of next) (suc n) found)
+scan (c ∷ text) state n found =
+    with_next (step state c) (λ next. scan text next (suc n) (or_found (kind_of next) (suc n) found)) found
 
 -- the longest token that begins the text
 abbrev pub longest : List ℕ → Found

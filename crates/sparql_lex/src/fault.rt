@@ -13,6 +13,7 @@ pub enum LexFault {
 }
 
 impl From<AllocError> for LexFault {
+    ghost use Rattle.std.specs.Prelude.{◌≡◌};
     ghost use Rattle.sparql_lex.specs.declared.fault.LexFault.TheVariants.{Memory};
 
     ghost from_gives = { λ _ fault. fault ≡ Memory };
@@ -23,6 +24,7 @@ impl From<AllocError> for LexFault {
 }
 
 impl From<term_core::Memory> for LexFault {
+    ghost use Rattle.std.specs.Prelude.{◌≡◌};
     ghost use Rattle.sparql_lex.specs.declared.fault.LexFault.TheVariants.{Memory};
 
     ghost from_gives = { λ _ fault. fault ≡ Memory };

@@ -1,6 +1,6 @@
 //! The tokens of a whole text.
 
-ghost use Rattle.std.specs.Prelude.{◌≡◌, ◌≤◌, ◌<◌, ◌^◌, ℕ, [], length, drop, IfOk};
+ghost use Rattle.std.specs.Prelude.{◌≡◌, ◌≤◌, ◌<◌, ◌^◌, ◌+◌, ℕ, length, take, drop, IfOk};
 ghost use Rattle.std.specs.Str.{chars};
 ghost use Rattle.term_core.specs.Tokens.{Tokens, FaultAt, Lexes, IsStuck, width};
 ghost use Rattle.sparql_lex.specs.Names.{NoPrefix};
@@ -57,7 +57,11 @@ fn width_of(text: &[char]) -> usize
 }
 
 /// How many bytes the `n` characters from the place `index` on have.
-fn width_at(text: &[char], index: usize, n: usize) -> usize {
+fn width_at(text: &[char], index: usize, n: usize) -> usize
+    requires within { index + n ≤ length text.now }
+    requires small { width text.now < 2 ^ 64 }
+    ensures { result ≡ width (take n (drop index text.now)) }
+{
     let (_, rest) = text.split_at(index);
     let (front, _) = rest.split_at(n);
     width_of(front)

@@ -1,7 +1,9 @@
 //! What one more character makes of a token that is read.
 
-ghost use Rattle.std.specs.Prelude.{◌≡◌, ◌≤◌, ◌<◌};
+ghost use Rattle.std.specs.Prelude.{◌≡◌, [], ◌∷◌, Some};
 ghost use Rattle.sparql_lex.specs.declared.state.State.TheVariants as states;
+ghost use Rattle.sparql_lex.specs.declared.state.Mark.TheVariants as marks;
+ghost use Rattle.sparql_lex.specs.declared.state.Quoted.TheVariants as quoted;
 ghost use Rattle.sparql_lex.specs.Steps as spec;
 ghost use Rattle.sparql_lex.specs.Steps.{first_of};
 
