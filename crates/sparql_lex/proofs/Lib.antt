@@ -6,3 +6,4 @@ pub mod LabelStates
 pub mod TagStates
 pub mod MarkStates
 pub mod NumberStates
+pub mod QuotedTails
