@@ -7,3 +7,5 @@ pub mod TagStates
 pub mod MarkStates
 pub mod NumberStates
 pub mod QuotedTails
+pub mod QuotedStates
+pub mod KindStates

@@ -26,7 +26,7 @@ NumberTail numbers.Exponent kind text = (kind ≡ kinds.Double) × ((c : ℕ) �
 NumberTail numbers.ExponentSign kind text = (kind ≡ kinds.Double) × ((c sign : ℕ) → is_exponent c ≡ true → is_among (codes "+-") sign ≡ true → IsExponent (c ∷ sign ∷ text))
 NumberTail numbers.Double kind text = (kind ≡ kinds.Double) × AreAll is_digit text
 
-one-digit : (c : ℕ) → is_digit c ≡ true → IsInteger (c ∷ [])
+pub one-digit : (c : ℕ) → is_digit c ≡ true → IsInteger (c ∷ [])
 one-digit c h = record { some = not-empty c []; digits = all-one is_digit c [] h refl }
 
 first-digit : (c : ℕ) (text : List ℕ) → is_digit c ≡ true → AreAll is_digit text → IsInteger (c ∷ text)
@@ -36,7 +36,7 @@ more-digits : (digits : List ℕ) (c : ℕ) → IsInteger digits → is_digit c 
 more-digits [] c h k = absurd (h.some refl)
 more-digits (d ∷ digits) c h k = record { some = not-empty d (digits ++ c ∷ []); digits = all-append is_digit (d ∷ digits) (c ∷ []) h.digits (all-one is_digit c [] k refl) }
 
-of_kind : (kind other : Kind) (text : List ℕ) → kind ≡ other → IsToken other text → IsToken kind text
+pub of_kind : (kind other : Kind) (text : List ℕ) → kind ≡ other → IsToken other text → IsToken kind text
 of_kind kind other text e h = subst (λ k. IsToken k text) (sym e) h
 
 ends-integer : (kind : Kind) → kind ≡ kinds.Integer → NumberTail numbers.Integer kind []
