@@ -9,3 +9,5 @@ pub mod NumberStates
 pub mod QuotedTails
 pub mod QuotedStates
 pub mod KindStates
+pub mod LongestTokens
+pub mod Cuts

@@ -97,10 +97,10 @@ pub record Begins (text : List ℕ) (state : State) (n : ℕ) (kind : Kind) (end
   pub place : end ≡ n + length front
   pub read : reads front state ≡ Some kind
 
-abbrev found_at : Kind → ℕ → Found
+abbrev pub found_at : Kind → ℕ → Found
 found_at kind end = Some (kind, end)
 
-same-kind : (k kind : Kind) (n end : ℕ) → found_at k n ≡ found_at kind end → (k ≡ kind) × (n ≡ end)
+pub same-kind : (k kind : Kind) (n end : ℕ) → found_at k n ≡ found_at kind end → (k ≡ kind) × (n ≡ end)
 same-kind k kind n end h =
     let p : Kind × ℕ = (k, n) in
     let q : Kind × ℕ = (kind, end) in
