@@ -11,3 +11,5 @@ pub mod QuotedStates
 pub mod KindStates
 pub mod LongestTokens
 pub mod Cuts
+pub mod WordRuns
+pub mod Cutting
