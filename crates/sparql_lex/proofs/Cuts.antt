@@ -72,7 +72,7 @@ space-width c h = among (λ v. width (v ∷ []) ≡ 1) (codes " \t\n\r") c
     one : (v : ℕ) → v < 128 → width (v ∷ []) ≡ 1
     one v small = width-cons v [] ∙ omega (arith, ap length (encode_ascii v small))
 
-lexes-same : (at : ℕ) {end end' : ℕ} {text text' rest rest' : List ℕ} {ts ts' : List Token} → Lexes at text ts end rest → text ≡ text' → ts ≡ ts' → end ≡ end' → rest ≡ rest' → Lexes at text' ts' end' rest'
+pub lexes-same : (at : ℕ) {end end' : ℕ} {text text' rest rest' : List ℕ} {ts ts' : List Token} → Lexes at text ts end rest → text ≡ text' → ts ≡ ts' → end ≡ end' → rest ≡ rest' → Lexes at text' ts' end' rest'
 lexes-same at {end = end} {end' = end'} {text = text} {text' = text'} {rest = rest} {ts = ts} {ts' = ts'} h a b c d =
     let h1 = subst (λ v. Lexes at v ts end rest) a h in
     let h2 = subst (λ v. Lexes at text' v end rest) b h1 in
@@ -87,9 +87,12 @@ front-comment text =
     let r = run-front is_in_line text in
     let whole : length text ≡ length r.front + length r.rest = ap length r.is ∙ length-append r.front r.rest in
     let taken : take (run is_in_line text) text ≡ r.front = ap (λ v. take v text) (sym r.len) ∙ (ap (λ v. take (length r.front) v) r.is ∙ take-front r.front r.rest) in
-    let dropped : drop (run is_in_line text) text ≡ r.rest = ap (λ v. drop v text) (sym r.len) ∙ (ap (λ v. drop (length r.front) v) r.is ∙ drop-front r.front r.rest) in
-    (omega arith, omega (arith, r.len, whole), λ at.
-        lexes-same at (comment r.front r.all (ends-line r.rest r.ends) stop) (ap (λ v. 35 ∷ v) (sym r.is)) refl (ap (λ v. at + width (35 ∷ v)) (sym taken)) (sym dropped))
+    let dropped : drop (run is_in_line text) text ≡ r.rest = ap (λ v. drop v text) (sym r.len) ∙ (ap (λ v. drop (length r.front) v) r.is ∙ drop-front r.front r.rest) in (
+      omega arith,
+      omega (arith, r.len, whole),
+      λ at.
+          lexes-same at (comment r.front r.all (ends-line r.rest r.ends) stop) (ap (λ v. 35 ∷ v) (sym r.is)) refl (ap (λ v. at + width (35 ∷ v)) (sym taken)) (sym dropped),
+    )
 
 pub front-next : (text : List ℕ) (kind : Kind) (n : ℕ) → longest text ≡ found_at kind n → FrontIs text (fronts.Next kind n)
 front-next text kind n h =
@@ -97,9 +100,12 @@ front-next text kind n h =
     let some : 0 < length b.front = some-token kind b.front b.longest.token in
     let whole : length text ≡ length b.front + length b.rest = ap length b.is ∙ length-append b.front b.rest in
     let taken : take n text ≡ b.front = ap (λ v. take v text) (sym b.len) ∙ (ap (λ v. take (length b.front) v) b.is ∙ take-front b.front b.rest) in
-    let dropped : drop n text ≡ b.rest = ap (λ v. drop v text) (sym b.len) ∙ (ap (λ v. drop (length b.front) v) b.is ∙ drop-front b.front b.rest) in
-    (omega (arith, b.len), omega (arith, b.len, whole), λ at.
-        lexes-same at (next b.longest stop) (sym b.is) (ap (λ v. token kind at (at + width v) ∷ []) (sym taken)) (ap (λ v. at + width v) (sym taken)) (sym dropped))
+    let dropped : drop n text ≡ b.rest = ap (λ v. drop v text) (sym b.len) ∙ (ap (λ v. drop (length b.front) v) b.is ∙ drop-front b.front b.rest) in (
+      omega (arith, b.len),
+      omega (arith, b.len, whole),
+      λ at.
+          lexes-same at (next b.longest stop) (sym b.is) (ap (λ v. token kind at (at + width v) ∷ []) (sym taken)) (ap (λ v. at + width v) (sym taken)) (sym dropped),
+    )
 
 pub front-nothing : (c : ℕ) (text : List ℕ) → is_space c ≡ false → (c ≡ 35 → ⊥) → longest (c ∷ text) ≡ None → FrontIs (c ∷ text) fronts.Nothing
 front-nothing c text s n h = record { first = c; more = text; spelled = refl; no_space = s; no_comment = n; no_token = longest-none (c ∷ text) h }

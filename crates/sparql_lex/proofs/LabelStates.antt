@@ -35,18 +35,20 @@ label-sound [] labels.Part kind h = (some_kind kinds.Blank kind h, tt)
 label-sound [] labels.Dot kind h = absurd (cc)
 label-sound (c ∷ text) labels.Underscore kind h =
     read-cases (label_rows labels.Underscore c) text kind (LabelTail labels.Underscore kind (c ∷ text))
-        (λ t r. let l = label-sound text labels.Colon kind r in (l.0, blank c text t l.1), tt) h
+    (λ t r. let l = label-sound text labels.Colon kind r in (l.0, blank c text t l.1), tt) h
 label-sound (c ∷ text) labels.Colon kind h =
     read-cases (label_rows labels.Colon c) text kind (LabelTail labels.Colon kind (c ∷ text))
-        (λ t r. let l = label-sound text labels.Part kind r in (l.0, (t, l.1)), tt) h
+    (λ t r. let l = label-sound text labels.Part kind r in (l.0, (t, l.1)), tt) h
 label-sound (c ∷ text) labels.Part kind h =
-    read-cases (label_rows labels.Part c) text kind (LabelTail labels.Part kind (c ∷ text))
-        (λ t r. let l = label-sound text labels.Part kind r in (l.0, dotted-part c text t l.1),
-        (λ t r. let l = label-sound text labels.Dot kind r in (l.0, dotted-dot c text t l.1 l.2), tt)) h
+    read-cases (label_rows labels.Part c) text kind (LabelTail labels.Part kind (c ∷ text)) (
+      λ t r. let l = label-sound text labels.Part kind r in (l.0, dotted-part c text t l.1),
+      (λ t r. let l = label-sound text labels.Dot kind r in (l.0, dotted-dot c text t l.1 l.2), tt),
+    ) h
 label-sound (c ∷ text) labels.Dot kind h =
-    read-cases (label_rows labels.Dot c) text kind (LabelTail labels.Dot kind (c ∷ text))
-        (λ t r. let l = label-sound text labels.Part kind r in (l.0, not-empty c text, dotted-part c text t l.1),
-        (λ t r. let l = label-sound text labels.Dot kind r in (l.0, not-empty c text, dotted-dot c text t l.1 l.2), tt)) h
+    read-cases (label_rows labels.Dot c) text kind (LabelTail labels.Dot kind (c ∷ text)) (
+      λ t r. let l = label-sound text labels.Part kind r in (l.0, not-empty c text, dotted-part c text t l.1),
+      (λ t r. let l = label-sound text labels.Dot kind r in (l.0, not-empty c text, dotted-dot c text t l.1 l.2), tt),
+    ) h
 
 -- behind a dot a label goes on as elsewhere
 dot-same : (text : List ℕ) → text ≢ [] → reads text (states.Label labels.Dot) ≡ reads text (states.Label labels.Part)
@@ -60,10 +62,11 @@ dotted-read [] h = refl
 dotted-read (c ∷ []) h = rw h refl
 dotted-read (c ∷ d ∷ text) h =
     let more = dotted-read (d ∷ text) h.1 in
-    elim (either (is_pn c) (c == 46) h.0) as (λ _. reads (c ∷ d ∷ text) (states.Label labels.Part) ≡ Some kinds.Blank)
-        [ inl p ↦ rw p more
-        | inr p ↦ subst (λ v. reads (v ∷ d ∷ text) (states.Label labels.Part) ≡ Some kinds.Blank) (sym (same c 46 p))
-            (rw pn-dot (dot-same (d ∷ text) (not-empty d text) ∙ more)) ]
+    elim (either (is_pn c) (c == 46) h.0) as (λ _. reads (c ∷ d ∷ text) (states.Label labels.Part) ≡ Some kinds.Blank) [
+      | inl p ↦ rw p more
+      | inr p ↦ subst (λ v. reads (v ∷ d ∷ text) (states.Label labels.Part) ≡ Some kinds.Blank) (sym (same c 46 p))
+          (rw pn-dot (dot-same (d ∷ text) (not-empty d text) ∙ more))
+    ]
 
 label-first : (c : ℕ) (label : List ℕ) → is_label_first c ≡ true → reads label (states.Label labels.Part) ≡ Some kinds.Blank
     → reads (c ∷ label) (states.Label labels.Colon) ≡ Some kinds.Blank
@@ -101,13 +104,13 @@ variable-sound [] variables.Dollar kind h = absurd (cc)
 variable-sound [] variables.Part kind h = (some_kind kinds.Var kind h, refl)
 variable-sound (c ∷ text) variables.Question kind h =
     read-cases (variable_rows variables.Question c) text kind (VariableTail variables.Question kind (c ∷ text))
-        (λ t r. let v = variable-sound text variables.Part kind r in inr (v.0, named c text t v.1), tt) h
+    (λ t r. let v = variable-sound text variables.Part kind r in inr (v.0, named c text t v.1), tt) h
 variable-sound (c ∷ text) variables.Dollar kind h =
     read-cases (variable_rows variables.Dollar c) text kind (VariableTail variables.Dollar kind (c ∷ text))
-        (λ t r. let v = variable-sound text variables.Part kind r in (v.0, named c text t v.1), tt) h
+    (λ t r. let v = variable-sound text variables.Part kind r in (v.0, named c text t v.1), tt) h
 variable-sound (c ∷ text) variables.Part kind h =
     read-cases (variable_rows variables.Part c) text kind (VariableTail variables.Part kind (c ∷ text))
-        (λ t r. let v = variable-sound text variables.Part kind r in (v.0, all-one is_variable_part c text t v.1), tt) h
+    (λ t r. let v = variable-sound text variables.Part kind r in (v.0, all-one is_variable_part c text t v.1), tt) h
 
 part-read : (c : ℕ) (text : List ℕ) → is_variable_part c ≡ true → reads text (states.Variable variables.Part) ≡ Some kinds.Var
     → reads (c ∷ text) (states.Variable variables.Part) ≡ Some kinds.Var
@@ -134,7 +137,7 @@ marked-read : (mark : ℕ) (first : ℕ) (more : List ℕ) → is_among (codes "
 unfolding step is_pn_base
 marked-read mark first more m f h =
     among (λ v. reads (v ∷ first ∷ more) states.Start ≡ Some kinds.Var) (codes "?$") mark
-        (first-read first more f (parts-read more h), (dollar-read first more f (parts-read more h), tt)) m
+    (first-read first more f (parts-read more h), (dollar-read first more f (parts-read more h), tt)) m
 
 pub variable-read : (text : List ℕ) → IsVariable text → reads text states.Start ≡ Some kinds.Var
 variable-read text h = subst (λ v. reads v states.Start ≡ Some kinds.Var) (sym h.spelled) (marked-read h.mark h.first h.more h.is_mark h.is_first h.are_parts)

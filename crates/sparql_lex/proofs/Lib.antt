@@ -13,3 +13,5 @@ pub mod LongestTokens
 pub mod Cuts
 pub mod WordRuns
 pub mod Cutting
+pub mod Places
+pub mod Readings

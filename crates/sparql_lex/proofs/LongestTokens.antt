@@ -23,10 +23,19 @@ pub record BeginsLongest (text : List ℕ) (kind : Kind) (n : ℕ) : Type 0 wher
 pub longest-found : (text : List ℕ) (kind : Kind) (n : ℕ) → longest text ≡ found_at kind n → BeginsLongest text kind n
 longest-found text kind n h =
     let b = longest-begins text kind n h in
-    record { front = b.front; rest = b.rest; is = b.is; len = omega (arith, b.place); longest = record { token = read-token b.front kind b.read; longest = λ other longer behind t e.
-        let k = longest-covers longer behind other (token-read other longer t) in
-        let s = same-kind k.kind_found kind k.length_found n (sym k.is ∙ (ap longest (e ∙ sym b.is) ∙ h)) in
-        omega (arith, k.long, s.1, b.place) } }
+    record {
+      front = b.front;
+      rest = b.rest;
+      is = b.is;
+      len = omega (arith, b.place);
+      longest = record {
+        token = read-token b.front kind b.read;
+        longest = λ other longer behind t e.
+            let k = longest-covers longer behind other (token-read other longer t) in
+            let s = same-kind k.kind_found kind k.length_found n (sym k.is ∙ (ap longest (e ∙ sym b.is) ∙ h)) in
+            omega (arith, k.long, s.1, b.place);
+      };
+    }
 
 pub longest-none : (text : List ℕ) → longest text ≡ None → (kind : Kind) (front rest : List ℕ) → IsToken kind front → front ++ rest ≡ text → ⊥
 longest-none text h kind front rest t e =

@@ -71,7 +71,7 @@ mark-sound [] (marks.First false second) kind h = absurd (cc)
 mark-sound [] marks.End kind h = (some_kind kinds.Sign kind h, refl)
 mark-sound (c ∷ text) (marks.First alone second) kind h =
     read-cases (mark_rows (marks.First alone second) c) text kind (MarkTail (marks.First alone second) kind (c ∷ text))
-        (λ t r. second-mark c second text alone kind t (mark-sound text marks.End kind r), tt) h
+    (λ t r. second-mark c second text alone kind t (mark-sound text marks.End kind r), tt) h
 mark-sound (c ∷ text) marks.End kind h = absurd (cc)
 
 -- a mark that stands alone, and two of them

@@ -65,9 +65,10 @@ word-more c text kind h t = elim t as (λ _. NameTail names.Word kind (c ∷ tex
 
 -- how a local name begins
 local-part : (c : ℕ) (text : List ℕ) → (is_label_first c || (c == 58)) ≡ true → AreLocalParts text → IsLocal (c ∷ text)
-local-part c text h p = elim (either (is_label_first c) (c == 58) h) as (λ _. IsLocal (c ∷ text))
-    [ inl l ↦ (label_first-local_first c h, part (label_first-local c l) p)
-    | inr l ↦ (label_first-local_first c h, part (holds_right (is_pn c) (c == 58) l) p) ]
+local-part c text h p = elim (either (is_label_first c) (c == 58) h) as (λ _. IsLocal (c ∷ text)) [
+  | inl l ↦ (label_first-local_first c h, part (label_first-local c l) p)
+  | inr l ↦ (label_first-local_first c h, part (holds_right (is_pn c) (c == 58) l) p)
+]
 
 local-percent : (c : ℕ) (text : List ℕ) → (c == 37) ≡ true → AreLocalParts (37 ∷ text) → IsLocal (c ∷ text)
 unfolding is_pn_u is_pn_base
@@ -96,46 +97,68 @@ name-sound [] names.Percent kind h = absurd (cc)
 name-sound [] names.PercentDigit kind h = absurd (cc)
 name-sound [] names.Backslash kind h = absurd (cc)
 name-sound (c ∷ text) names.Word kind h =
-    read-cases (name_rows names.Word c) text kind (NameTail names.Word kind (c ∷ text))
-        (λ t r. word-more c text kind t (name-sound text names.Word kind r),
-        (λ t r. let l = name-sound text names.Colon kind r in inr (l.0, prefix-colon c text t l.1),
-        (λ t r. let p = name-sound text names.Prefix kind r in inr (p.0, prefix-part c text true t p.1),
-        (λ t r. let p = name-sound text names.PrefixDot kind r in inr (p.0, prefix-dot c text true t p.1), tt)))) h
+    read-cases (name_rows names.Word c) text kind (NameTail names.Word kind (c ∷ text)) (
+      λ t r. word-more c text kind t (name-sound text names.Word kind r),
+      (
+        λ t r. let l = name-sound text names.Colon kind r in inr (l.0, prefix-colon c text t l.1),
+        (
+          λ t r. let p = name-sound text names.Prefix kind r in inr (p.0, prefix-part c text true t p.1),
+          (λ t r. let p = name-sound text names.PrefixDot kind r in inr (p.0, prefix-dot c text true t p.1), tt),
+        ),
+      ),
+    ) h
 name-sound (c ∷ text) names.Prefix kind h =
-    read-cases (name_rows names.Prefix c) text kind (NameTail names.Prefix kind (c ∷ text))
-        (λ t r. let l = name-sound text names.Colon kind r in (l.0, prefix-colon c text t l.1),
-        (λ t r. let p = name-sound text names.Prefix kind r in (p.0, prefix-part c text true t p.1),
-        (λ t r. let p = name-sound text names.PrefixDot kind r in (p.0, prefix-dot c text true t p.1), tt))) h
+    read-cases (name_rows names.Prefix c) text kind (NameTail names.Prefix kind (c ∷ text)) (
+      λ t r. let l = name-sound text names.Colon kind r in (l.0, prefix-colon c text t l.1),
+      (
+        λ t r. let p = name-sound text names.Prefix kind r in (p.0, prefix-part c text true t p.1),
+        (λ t r. let p = name-sound text names.PrefixDot kind r in (p.0, prefix-dot c text true t p.1), tt),
+      ),
+    ) h
 name-sound (c ∷ text) names.PrefixDot kind h =
-    read-cases (name_rows names.PrefixDot c) text kind (NameTail names.PrefixDot kind (c ∷ text))
-        (λ t r. let p = name-sound text names.Prefix kind r in (p.0, prefix-part c text false t p.1),
-        (λ t r. let p = name-sound text names.PrefixDot kind r in (p.0, prefix-dot c text false t p.1), tt)) h
+    read-cases (name_rows names.PrefixDot c) text kind (NameTail names.PrefixDot kind (c ∷ text)) (
+      λ t r. let p = name-sound text names.Prefix kind r in (p.0, prefix-part c text false t p.1),
+      (λ t r. let p = name-sound text names.PrefixDot kind r in (p.0, prefix-dot c text false t p.1), tt),
+    ) h
 name-sound (c ∷ text) names.Colon kind h =
-    read-cases (name_rows names.Colon c) text kind (NameTail names.Colon kind (c ∷ text))
-        (λ t r. let p = name-sound text names.Local kind r in (p.0, local-part c text t p.1),
-        (λ t r. let p = name-sound text names.Percent kind r in (p.0, local-percent c text t p.1),
-        (λ t r. let p = name-sound text names.Backslash kind r in (p.0, local-backslash c text t p.1), tt))) h
+    read-cases (name_rows names.Colon c) text kind (NameTail names.Colon kind (c ∷ text)) (
+      λ t r. let p = name-sound text names.Local kind r in (p.0, local-part c text t p.1),
+      (
+        λ t r. let p = name-sound text names.Percent kind r in (p.0, local-percent c text t p.1),
+        (λ t r. let p = name-sound text names.Backslash kind r in (p.0, local-backslash c text t p.1), tt),
+      ),
+    ) h
 name-sound (c ∷ text) names.Local kind h =
-    read-cases (name_rows names.Local c) text kind (NameTail names.Local kind (c ∷ text))
-        (λ t r. let p = name-sound text names.Local kind r in (p.0, part t p.1),
-        (λ t r. let p = name-sound text names.LocalDot kind r in (p.0, parts-dot c text t p.1 p.2),
-        (λ t r. let p = name-sound text names.Percent kind r in (p.0, put AreLocalParts c 37 text t p.1),
-        (λ t r. let p = name-sound text names.Backslash kind r in (p.0, put AreLocalParts c 92 text t p.1), tt)))) h
+    read-cases (name_rows names.Local c) text kind (NameTail names.Local kind (c ∷ text)) (
+      λ t r. let p = name-sound text names.Local kind r in (p.0, part t p.1),
+      (
+        λ t r. let p = name-sound text names.LocalDot kind r in (p.0, parts-dot c text t p.1 p.2),
+        (
+          λ t r. let p = name-sound text names.Percent kind r in (p.0, put AreLocalParts c 37 text t p.1),
+          (λ t r. let p = name-sound text names.Backslash kind r in (p.0, put AreLocalParts c 92 text t p.1), tt),
+        ),
+      ),
+    ) h
 name-sound (c ∷ text) names.LocalDot kind h =
-    read-cases (name_rows names.LocalDot c) text kind (NameTail names.LocalDot kind (c ∷ text))
-        (λ t r. let p = name-sound text names.Local kind r in (p.0, not-empty c text, part t p.1),
-        (λ t r. let p = name-sound text names.LocalDot kind r in (p.0, not-empty c text, parts-dot c text t p.1 p.2),
-        (λ t r. let p = name-sound text names.Percent kind r in (p.0, not-empty c text, put AreLocalParts c 37 text t p.1),
-        (λ t r. let p = name-sound text names.Backslash kind r in (p.0, not-empty c text, put AreLocalParts c 92 text t p.1), tt)))) h
+    read-cases (name_rows names.LocalDot c) text kind (NameTail names.LocalDot kind (c ∷ text)) (
+      λ t r. let p = name-sound text names.Local kind r in (p.0, not-empty c text, part t p.1),
+      (
+        λ t r. let p = name-sound text names.LocalDot kind r in (p.0, not-empty c text, parts-dot c text t p.1 p.2),
+        (
+          λ t r. let p = name-sound text names.Percent kind r in (p.0, not-empty c text, put AreLocalParts c 37 text t p.1),
+          (λ t r. let p = name-sound text names.Backslash kind r in (p.0, not-empty c text, put AreLocalParts c 92 text t p.1), tt),
+        ),
+      ),
+    ) h
 name-sound (c ∷ text) names.Percent kind h =
     read-cases (name_rows names.Percent c) text kind (NameTail names.Percent kind (c ∷ text))
-        (λ t r. let p = name-sound text names.PercentDigit kind r in (p.0, p.1 c t), tt) h
+    (λ t r. let p = name-sound text names.PercentDigit kind r in (p.0, p.1 c t), tt) h
 name-sound (c ∷ text) names.PercentDigit kind h =
     read-cases (name_rows names.PercentDigit c) text kind (NameTail names.PercentDigit kind (c ∷ text))
-        (λ t r. let p = name-sound text names.Local kind r in (p.0, λ d e. percent e t p.1), tt) h
+    (λ t r. let p = name-sound text names.Local kind r in (p.0, λ d e. percent e t p.1), tt) h
 name-sound (c ∷ text) names.Backslash kind h =
     read-cases (name_rows names.Backslash c) text kind (NameTail names.Backslash kind (c ∷ text))
-        (λ t r. let p = name-sound text names.Local kind r in (p.0, backslash t p.1), tt) h
+    (λ t r. let p = name-sound text names.Local kind r in (p.0, backslash t p.1), tt) h
 
 -- behind a dot a local name goes on as elsewhere
 dot-same : (text : List ℕ) → text ≢ [] → reads text (states.Name names.LocalDot) ≡ reads text (states.Name names.Local)
@@ -182,6 +205,7 @@ word-step c text h = go (is_word_part c) refl
   where
     no_colon : (c == 58) ≡ false
     no_colon = other_than is_pn c 58 h pn-colon
+
     go : (t : Bool) → is_word_part c ≡ t → (reads (c ∷ text) (states.Name names.Word) ≡ reads text (states.Name names.Word)) ⊎ (reads (c ∷ text) (states.Name names.Word) ≡ reads text (states.Name names.Prefix))
     go true e = inl (rw e refl)
     go false e = inr (rw (e, no_colon, h) refl)
@@ -194,24 +218,27 @@ pub record ReadsPrefix (more local : List ℕ) : Type 0 where
 
 by-part : (c : ℕ) (more local : List ℕ) → is_pn c ≡ true → ReadsPrefix more local → ReadsPrefix (c ∷ more) local
 by-part c more local h r = record {
-    prefix = prefix-step c (more ++ 58 ∷ local) h ∙ r.prefix;
-    word = elim (word-step c (more ++ 58 ∷ local) h) [ inl e ↦ e ∙ r.word | inr e ↦ e ∙ r.prefix ];
-    behind_dot = λ some. dot-step c (more ++ 58 ∷ local) h ∙ r.prefix }
+  prefix = prefix-step c (more ++ 58 ∷ local) h ∙ r.prefix;
+  word = elim (word-step c (more ++ 58 ∷ local) h) [ inl e ↦ e ∙ r.word | inr e ↦ e ∙ r.prefix ];
+  behind_dot = λ some. dot-step c (more ++ 58 ∷ local) h ∙ r.prefix;
+}
 
 by-dot : (more local : List ℕ) → more ≢ [] → ReadsPrefix more local → ReadsPrefix (46 ∷ more) local
 unfolding step
 by-dot more local some r = record {
-    prefix = rw pn-dot (r.behind_dot some);
-    word = rw pn-dot (r.behind_dot some);
-    behind_dot = λ _. rw pn-dot (r.behind_dot some) }
+  prefix = rw pn-dot (r.behind_dot some);
+  word = rw pn-dot (r.behind_dot some);
+  behind_dot = λ _. rw pn-dot (r.behind_dot some);
+}
 
 dotted-read : (more local : List ℕ) → IsDotted is_pn more → ReadsPrefix more local
 unfolding step
 dotted-read [] local h = record { prefix = refl; word = refl; behind_dot = λ some. absurd (some refl) }
 dotted-read (c ∷ []) local h = by-part c [] local h (dotted-read [] local tt)
-dotted-read (c ∷ d ∷ more) local h = elim (either (is_pn c) (c == 46) h.0) as (λ _. ReadsPrefix (c ∷ d ∷ more) local)
-    [ inl p ↦ by-part c (d ∷ more) local p (dotted-read (d ∷ more) local h.1)
-    | inr p ↦ subst (λ v. ReadsPrefix (v ∷ d ∷ more) local) (sym (same c 46 p)) (by-dot (d ∷ more) local (not-empty d more) (dotted-read (d ∷ more) local h.1)) ]
+dotted-read (c ∷ d ∷ more) local h = elim (either (is_pn c) (c == 46) h.0) as (λ _. ReadsPrefix (c ∷ d ∷ more) local) [
+  | inl p ↦ by-part c (d ∷ more) local p (dotted-read (d ∷ more) local h.1)
+  | inr p ↦ subst (λ v. ReadsPrefix (v ∷ d ∷ more) local) (sym (same c 46 p)) (by-dot (d ∷ more) local (not-empty d more) (dotted-read (d ∷ more) local h.1))
+]
 
 run-read : (text : List ℕ) → AreAll is_word_part text → reads text (states.Name names.Word) ≡ Some kinds.Word
 unfolding step
@@ -237,7 +264,7 @@ prefixed : (c : ℕ) (more local : List ℕ) → (is_pn_base c ≡ true) × IsDo
 prefixed c more local h k =
     let r = dotted-read more local h.1 in
     elim (started c (more ++ 58 ∷ local) h.0) as (λ _. reads (c ∷ (more ++ 58 ∷ local)) states.Start ≡ Some kinds.PName)
-        [ inl e ↦ e ∙ (r.word ∙ local-read local k) | inr e ↦ e ∙ (r.prefix ∙ local-read local k) ]
+    [ inl e ↦ e ∙ (r.word ∙ local-read local k) | inr e ↦ e ∙ (r.prefix ∙ local-read local k) ]
 
 prefixed-read : (prefix local : List ℕ) → IsPrefix prefix → IsLocal local → reads (prefix ++ 58 ∷ local) states.Start ≡ Some kinds.PName
 unfolding step is_pn_base

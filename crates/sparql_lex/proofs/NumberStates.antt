@@ -65,7 +65,7 @@ point-digit c text kind t r digits h = r digits (c ∷ []) h.digits (one-digit c
 point-exponent : (c : ℕ) (text : List ℕ) (kind : Kind) → is_exponent c ≡ true → NumberTail numbers.Exponent kind text → NumberTail numbers.Point kind (c ∷ text)
 point-exponent c text kind t r digits h =
     of_kind kind kinds.Double (digits ++ 46 ∷ c ∷ text) r.0
-        (record { mantissa = digits ++ 46 ∷ []; exponent = c ∷ text; is_mantissa = inr (inr (record { whole = digits; is_whole = h; spelled = refl })); is_exponent = r.1 c t; spelled = sym (append_assoc digits (46 ∷ []) (c ∷ text)) })
+    (record { mantissa = digits ++ 46 ∷ []; exponent = c ∷ text; is_mantissa = inr (inr (record { whole = digits; is_whole = h; spelled = refl })); is_exponent = r.1 c t; spelled = sym (append_assoc digits (46 ∷ []) (c ∷ text)) })
 
 decimal-digit : (c : ℕ) (text : List ℕ) (kind : Kind) → is_digit c ≡ true → NumberTail numbers.Decimal kind text → NumberTail numbers.Decimal kind (c ∷ text)
 decimal-digit c text kind t r whole part w p =
@@ -74,7 +74,7 @@ decimal-digit c text kind t r whole part w p =
 decimal-exponent : (c : ℕ) (text : List ℕ) (kind : Kind) → is_exponent c ≡ true → NumberTail numbers.Exponent kind text → NumberTail numbers.Decimal kind (c ∷ text)
 decimal-exponent c text kind t r whole part w p =
     of_kind kind kinds.Double (whole ++ 46 ∷ (part ++ c ∷ text)) r.0
-        (record { mantissa = whole ++ 46 ∷ part; exponent = c ∷ text; is_mantissa = inr (inl (record { whole = whole; part = part; are_digits = w; is_part = p; spelled = refl })); is_exponent = r.1 c t; spelled = sym (append_assoc whole (46 ∷ part) (c ∷ text)) })
+    (record { mantissa = whole ++ 46 ∷ part; exponent = c ∷ text; is_mantissa = inr (inl (record { whole = whole; part = part; are_digits = w; is_part = p; spelled = refl })); is_exponent = r.1 c t; spelled = sym (append_assoc whole (46 ∷ part) (c ∷ text)) })
 
 exponent-digit : (c : ℕ) (text : List ℕ) (kind : Kind) → is_digit c ≡ true → NumberTail numbers.Double kind text → NumberTail numbers.Exponent kind (c ∷ text)
 exponent-digit c text kind t r = (r.0, λ e h. record { letter = e; digits = c ∷ text; is_letter = h; are_digits = first-digit c text t r.1; spelled = inl refl })
@@ -96,30 +96,36 @@ number-sound [] numbers.Exponent kind h = absurd (cc)
 number-sound [] numbers.ExponentSign kind h = absurd (cc)
 number-sound (c ∷ text) numbers.Dot kind h =
     read-cases (number_rows numbers.Dot c) text kind (NumberTail numbers.Dot kind (c ∷ text))
-        (λ t r. number-sound text numbers.Decimal kind r [] (c ∷ []) refl (one-digit c t), tt) h
+    (λ t r. number-sound text numbers.Decimal kind r [] (c ∷ []) refl (one-digit c t), tt) h
 number-sound (c ∷ text) numbers.Integer kind h =
-    read-cases (number_rows numbers.Integer c) text kind (NumberTail numbers.Integer kind (c ∷ text))
-        (λ t r. integer-digit c text kind t (number-sound text numbers.Integer kind r),
-        (λ t r. integer-point c text kind t (number-sound text numbers.Point kind r),
-        (λ t r. integer-exponent c text kind t (number-sound text numbers.Exponent kind r), tt))) h
+    read-cases (number_rows numbers.Integer c) text kind (NumberTail numbers.Integer kind (c ∷ text)) (
+      λ t r. integer-digit c text kind t (number-sound text numbers.Integer kind r),
+      (
+        λ t r. integer-point c text kind t (number-sound text numbers.Point kind r),
+        (λ t r. integer-exponent c text kind t (number-sound text numbers.Exponent kind r), tt),
+      ),
+    ) h
 number-sound (c ∷ text) numbers.Point kind h =
-    read-cases (number_rows numbers.Point c) text kind (NumberTail numbers.Point kind (c ∷ text))
-        (λ t r. point-digit c text kind t (number-sound text numbers.Decimal kind r),
-        (λ t r. point-exponent c text kind t (number-sound text numbers.Exponent kind r), tt)) h
+    read-cases (number_rows numbers.Point c) text kind (NumberTail numbers.Point kind (c ∷ text)) (
+      λ t r. point-digit c text kind t (number-sound text numbers.Decimal kind r),
+      (λ t r. point-exponent c text kind t (number-sound text numbers.Exponent kind r), tt),
+    ) h
 number-sound (c ∷ text) numbers.Decimal kind h =
-    read-cases (number_rows numbers.Decimal c) text kind (NumberTail numbers.Decimal kind (c ∷ text))
-        (λ t r. decimal-digit c text kind t (number-sound text numbers.Decimal kind r),
-        (λ t r. decimal-exponent c text kind t (number-sound text numbers.Exponent kind r), tt)) h
+    read-cases (number_rows numbers.Decimal c) text kind (NumberTail numbers.Decimal kind (c ∷ text)) (
+      λ t r. decimal-digit c text kind t (number-sound text numbers.Decimal kind r),
+      (λ t r. decimal-exponent c text kind t (number-sound text numbers.Exponent kind r), tt),
+    ) h
 number-sound (c ∷ text) numbers.Exponent kind h =
-    read-cases (number_rows numbers.Exponent c) text kind (NumberTail numbers.Exponent kind (c ∷ text))
-        (λ t r. exponent-digit c text kind t (number-sound text numbers.Double kind r),
-        (λ t r. exponent-sign c text kind t (number-sound text numbers.ExponentSign kind r), tt)) h
+    read-cases (number_rows numbers.Exponent c) text kind (NumberTail numbers.Exponent kind (c ∷ text)) (
+      λ t r. exponent-digit c text kind t (number-sound text numbers.Double kind r),
+      (λ t r. exponent-sign c text kind t (number-sound text numbers.ExponentSign kind r), tt),
+    ) h
 number-sound (c ∷ text) numbers.ExponentSign kind h =
     read-cases (number_rows numbers.ExponentSign c) text kind (NumberTail numbers.ExponentSign kind (c ∷ text))
-        (λ t r. sign-digit c text kind t (number-sound text numbers.Double kind r), tt) h
+    (λ t r. sign-digit c text kind t (number-sound text numbers.Double kind r), tt) h
 number-sound (c ∷ text) numbers.Double kind h =
     read-cases (number_rows numbers.Double c) text kind (NumberTail numbers.Double kind (c ∷ text))
-        (λ t r. let d = number-sound text numbers.Double kind r in (d.0, all-one is_digit c text t d.1), tt) h
+    (λ t r. let d = number-sound text numbers.Double kind r in (d.0, all-one is_digit c text t d.1), tt) h
 
 -- a digit leads on
 start-digit : (c : ℕ) (text : List ℕ) → is_digit c ≡ true → reads (c ∷ text) states.Start ≡ reads text (states.Number numbers.Integer)
@@ -196,10 +202,11 @@ unfolding step
 sign-same text c h r = among (λ v. reads (v ∷ text) (states.Number numbers.Exponent) ≡ Some kinds.Double) (codes "+-") c (r, (r, tt)) h
 
 exponent-read : (text : List ℕ) → IsExponent text → AllRead text
-exponent-read text h = elim h.spelled as (λ _. AllRead text)
-    [ inl e ↦ subst AllRead (sym e) (exponent-same h.digits h.letter h.is_letter (digits-end numbers.Exponent h.digits refl h.are_digits))
-    | inr s ↦ subst AllRead (sym s.2) (exponent-same (s.0 ∷ h.digits) h.letter h.is_letter
-        (sign-same h.digits s.0 s.1 (digits-end numbers.ExponentSign h.digits refl h.are_digits))) ]
+exponent-read text h = elim h.spelled as (λ _. AllRead text) [
+  | inl e ↦ subst AllRead (sym e) (exponent-same h.digits h.letter h.is_letter (digits-end numbers.Exponent h.digits refl h.are_digits))
+  | inr s ↦ subst AllRead (sym s.2) (exponent-same (s.0 ∷ h.digits) h.letter h.is_letter
+      (sign-same h.digits s.0 s.1 (digits-end numbers.ExponentSign h.digits refl h.are_digits)))
+]
 
 point-same : (text : List ℕ) → reads (46 ∷ text) (states.Number numbers.Integer) ≡ reads text (states.Number numbers.Point)
 unfolding step

@@ -68,7 +68,7 @@ digits-read body (c ∷ d ∷ digits) rest left value count some h m =
     let small : value < 0x110000 = omega (arith, onto-grows (c ∷ d ∷ digits) value, scalar-small (hex_onto value (c ∷ d ∷ digits)) (may-scalar body (hex_onto value (c ∷ d ∷ digits)) m)) in
     let two : nat_lt 1 left ≡ true = grind (arith, nat_tests) in
     digit-step body left value c (d ∷ (digits ++ rest)) (next-digit value c first.0 small) two
-        ∙ digits-read body (d ∷ digits) rest (left - 1) (with_digit value c) (omega arith) (omega arith) first.1 m
+    ∙ digits-read body (d ∷ digits) rest (left - 1) (with_digit value c) (omega arith) (omega arith) first.1 m
 
 -- an escape is a backslash and what leads back into the body
 pub record Escapes (body : Body) (escape rest : List ℕ) : Type 0 where
@@ -84,9 +84,10 @@ u-step body text = (refl, refl)
 uchar-escapes : (body : Body) (escape : List ℕ) (c : ℕ) (rest : List ℕ) → IsUchar escape c → may_spell body c ≡ true → Escapes body escape rest
 uchar-escapes body escape c rest u m =
     let may : may_spell body (hex_number u.digits) ≡ true = subst (λ v. may_spell body v ≡ true) u.value m in
-    elim u.spelled as (λ _. Escapes body escape rest)
-    [ inl s ↦ record { letters = 117 ∷ u.digits; spelled = s.0; read = (u-step body (u.digits ++ rest)).0 ∙ digits-read body u.digits rest 4 0 s.1 (omega arith) u.are_hex may }
-    | inr s ↦ record { letters = 85 ∷ u.digits; spelled = s.0; read = (u-step body (u.digits ++ rest)).1 ∙ digits-read body u.digits rest 8 0 s.1 (omega arith) u.are_hex may } ]
+    elim u.spelled as (λ _. Escapes body escape rest) [
+      | inl s ↦ record { letters = 117 ∷ u.digits; spelled = s.0; read = (u-step body (u.digits ++ rest)).0 ∙ digits-read body u.digits rest 4 0 s.1 (omega arith) u.are_hex may }
+      | inr s ↦ record { letters = 85 ∷ u.digits; spelled = s.0; read = (u-step body (u.digits ++ rest)).1 ∙ digits-read body u.digits rest 8 0 s.1 (omega arith) u.are_hex may }
+    ]
 
 letter-short : (quote c : ℕ) (rest : List ℕ) → is_among (codes "tbnrf\"'\\") c ≡ true
     → reads (c ∷ rest) (states.Quoted (quoted.Backslash (bodies.Short quote))) ≡ reads rest (states.Quoted (quoted.Inside (bodies.Short quote)))
@@ -136,7 +137,7 @@ iri-body rest escapes.nothing = refl
 iri-body rest (escapes.character {c} {text} h k) = iri-step c (text ++ rest) h ∙ iri-body rest k
 iri-body rest (escapes.escape {c} {escape} {text} e k) =
     append-escape escape text rest (states.Quoted (quoted.Inside bodies.Iri)) (reads rest (states.Quoted (quoted.Inside bodies.Iri)))
-        (by-escape bodies.Iri (states.Quoted (quoted.Inside bodies.Iri)) escape (text ++ rest) (iri-escapes escape c (text ++ rest) e) iri-backslash ∙ iri-body rest k)
+    (by-escape bodies.Iri (states.Quoted (quoted.Inside bodies.Iri)) escape (text ++ rest) (iri-escapes escape c (text ++ rest) e) iri-backslash ∙ iri-body rest k)
 
 less-same : (c d : ℕ) (text : List ℕ) → reads (c ∷ d ∷ text) (states.Quoted quoted.Less) ≡ reads (c ∷ d ∷ text) (states.Quoted (quoted.Inside bodies.Iri))
 unfolding step
@@ -188,7 +189,7 @@ short-body quote rest q escapes.nothing = refl
 short-body quote rest q (escapes.character {c} {text} h k) = (short-step quote c (text ++ rest) h).0 ∙ short-body quote rest q k
 short-body quote rest q (escapes.escape {c} {escape} {text} e k) =
     append-escape escape text rest (in_short quote) (reads rest (in_short quote))
-        (by-escape (bodies.Short quote) (in_short quote) escape (text ++ rest) (short-escapes quote escape c (text ++ rest) e) (λ more. (short-backslash quote q more).0) ∙ short-body quote rest q k)
+    (by-escape (bodies.Short quote) (in_short quote) escape (text ++ rest) (short-escapes quote escape c (text ++ rest) e) (λ more. (short-backslash quote q more).0) ∙ short-body quote rest q k)
 
 short-begins : {body value : List ℕ} (quote : ℕ) → is_quote quote ≡ true → IsEscaped (is_plain_in quote) IsStringEscape body value
     → reads (body ++ quote ∷ []) (states.Quoted (quoted.Quote quote)) ≡ Some kinds.String
@@ -196,8 +197,8 @@ short-begins quote q escapes.nothing = (short-ends quote q).1
 short-begins quote q (escapes.character {c} {text} h k) = (short-step quote c (text ++ quote ∷ []) h).1 ∙ (short-body quote (quote ∷ []) q k ∙ (short-ends quote q).0)
 short-begins quote q (escapes.escape {c} {escape} {text} e k) =
     append-escape escape text (quote ∷ []) (states.Quoted (quoted.Quote quote)) (Some kinds.String)
-        (by-escape (bodies.Short quote) (states.Quoted (quoted.Quote quote)) escape (text ++ quote ∷ []) (short-escapes quote escape c (text ++ quote ∷ []) e) (λ more. (short-backslash quote q more).1)
-            ∙ (short-body quote (quote ∷ []) q k ∙ (short-ends quote q).0))
+    (by-escape (bodies.Short quote) (states.Quoted (quoted.Quote quote)) escape (text ++ quote ∷ []) (short-escapes quote escape c (text ++ quote ∷ []) e) (λ more. (short-backslash quote q more).1)
+    ∙ (short-body quote (quote ∷ []) q k ∙ (short-ends quote q).0))
 
 quote-start : (quote : ℕ) (text : List ℕ) → is_quote quote ≡ true → (reads (quote ∷ text) states.Start ≡ reads text (states.Quoted (quoted.Quote quote)))
     × (reads (quote ∷ quote ∷ quote ∷ text) states.Start ≡ reads text (states.Quoted (quoted.Inside (bodies.Long quote))))
@@ -244,8 +245,8 @@ long-body quote q (terminals.one_quote {row} {text} h k) = row-quote quote row (
 long-body quote q (terminals.character {row} {c} {text} h k) = row-plain quote row c (text ++ quote ∷ quote ∷ quote ∷ []) h ∙ long-body quote q k
 long-body quote q (terminals.escape {row} {c} {escape} {text} e k) =
     append-escape escape text (quote ∷ quote ∷ quote ∷ []) (row_state quote row) (Some kinds.String)
-        (by-escape (bodies.Long quote) (row_state quote row) escape (text ++ quote ∷ quote ∷ quote ∷ []) (long-escapes quote escape c (text ++ quote ∷ quote ∷ quote ∷ []) e)
-            (λ more. row-backslash quote row more q) ∙ long-body quote q k)
+    (by-escape (bodies.Long quote) (row_state quote row) escape (text ++ quote ∷ quote ∷ quote ∷ []) (long-escapes quote escape c (text ++ quote ∷ quote ∷ quote ∷ []) e)
+    (λ more. row-backslash quote row more q) ∙ long-body quote q k)
 
 pub long-read : (text : List ℕ) → IsLongString text → reads text states.Start ≡ Some kinds.String
 long-read text h = subst (λ v. reads v states.Start ≡ Some kinds.String) (sym h.spelled)

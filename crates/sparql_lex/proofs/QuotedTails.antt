@@ -103,9 +103,15 @@ iri-end c text kind h t = let first : c ≡ 62 = same c 62 h in let none : text 
 iri-escape : (c : ℕ) (text : List ℕ) (kind : Kind) → (c == 92) ≡ true → BackslashTail bodies.Iri kind text → InsideTail bodies.Iri kind (c ∷ text)
 iri-escape c text kind h t =
     let r = t.behind.1 in
-    let first : c ≡ 92 = same c 92 h in
-    (t.behind.0, record { body = (92 ∷ t.escape) ++ r.body; iri = t.value ∷ r.iri; is_body = escapes.escape t.is_escape r.is_body;
-        spelled = ap (λ v. v ∷ text) first ∙ ap (λ v. 92 ∷ v) (t.spelled ∙ ap (λ v. t.escape ++ v) r.spelled ∙ sym (append_assoc t.escape r.body (62 ∷ []))) })
+    let first : c ≡ 92 = same c 92 h in (
+      t.behind.0,
+      record {
+        body = (92 ∷ t.escape) ++ r.body;
+        iri = t.value ∷ r.iri;
+        is_body = escapes.escape t.is_escape r.is_body;
+        spelled = ap (λ v. v ∷ text) first ∙ ap (λ v. 92 ∷ v) (t.spelled ∙ ap (λ v. t.escape ++ v) r.spelled ∙ sym (append_assoc t.escape r.body (62 ∷ [])));
+      },
+    )
 
 -- in a string between two quotes
 short-plain : (quote c : ℕ) (text : List ℕ) → is_plain_in quote c ≡ true → ShortTail quote text → ShortTail quote (c ∷ text)
@@ -118,8 +124,12 @@ short-escape : (quote c : ℕ) (text : List ℕ) (kind : Kind) → (c == 92) ≡
 short-escape quote c text kind h t =
     let r = t.behind.1 in
     let first : c ≡ 92 = same c 92 h in
-    record { body = (92 ∷ t.escape) ++ r.body; value = t.value ∷ r.value; is_body = escapes.escape t.is_escape r.is_body;
-        spelled = ap (λ v. v ∷ text) first ∙ ap (λ v. 92 ∷ v) (t.spelled ∙ ap (λ v. t.escape ++ v) r.spelled ∙ sym (append_assoc t.escape r.body (quote ∷ []))) }
+    record {
+      body = (92 ∷ t.escape) ++ r.body;
+      value = t.value ∷ r.value;
+      is_body = escapes.escape t.is_escape r.is_body;
+      spelled = ap (λ v. v ∷ text) first ∙ ap (λ v. 92 ∷ v) (t.spelled ∙ ap (λ v. t.escape ++ v) r.spelled ∙ sym (append_assoc t.escape r.body (quote ∷ [])));
+    }
 
 -- in a long string: a character behind so many quotes in a row
 abbrev quotes : ℕ → ℕ → List ℕ → List ℕ
@@ -137,19 +147,25 @@ quotes-append quote zero a b = refl
 quotes-append quote (suc n) a b = ap (λ v. quote ∷ v) (quotes-append quote n a b)
 
 long-plain : (quote n c : ℕ) (text : List ℕ) → n ≤ 2 → is_long_plain quote c ≡ true → LongTail quote text → LongTail quote (quotes quote n (c ∷ text))
-long-plain quote n c text fits h r = record { body = quotes quote n (c ∷ r.body); value = quotes quote n (c ∷ r.value);
-    is_body = row-body quote n (c ∷ r.body) (c ∷ r.value) fits (terminals.character h r.is_body);
-    spelled = ap (λ v. quotes quote n (c ∷ v)) r.spelled ∙ quotes-append quote n (c ∷ r.body) (quote ∷ quote ∷ quote ∷ []) }
+long-plain quote n c text fits h r = record {
+  body = quotes quote n (c ∷ r.body);
+  value = quotes quote n (c ∷ r.value);
+  is_body = row-body quote n (c ∷ r.body) (c ∷ r.value) fits (terminals.character h r.is_body);
+  spelled = ap (λ v. quotes quote n (c ∷ v)) r.spelled ∙ quotes-append quote n (c ∷ r.body) (quote ∷ quote ∷ quote ∷ []);
+}
 
 long-escape : (quote n c : ℕ) (text : List ℕ) (kind : Kind) → n ≤ 2 → (c == 92) ≡ true → BackslashTail (bodies.Long quote) kind text → LongTail quote (quotes quote n (c ∷ text))
 long-escape quote n c text kind fits h t =
     let r = t.behind.1 in
     let first : c ≡ 92 = same c 92 h in
     let all : c ∷ text ≡ ((92 ∷ t.escape) ++ r.body) ++ quote ∷ quote ∷ quote ∷ [] =
-        ap (λ v. v ∷ text) first ∙ ap (λ v. 92 ∷ v) (t.spelled ∙ ap (λ v. t.escape ++ v) r.spelled ∙ sym (append_assoc t.escape r.body (quote ∷ quote ∷ quote ∷ []))) in
-    record { body = quotes quote n ((92 ∷ t.escape) ++ r.body); value = quotes quote n (t.value ∷ r.value);
-        is_body = row-body quote n ((92 ∷ t.escape) ++ r.body) (t.value ∷ r.value) fits (terminals.escape t.is_escape r.is_body);
-        spelled = ap (λ v. quotes quote n v) all ∙ quotes-append quote n ((92 ∷ t.escape) ++ r.body) (quote ∷ quote ∷ quote ∷ []) }
+    ap (λ v. v ∷ text) first ∙ ap (λ v. 92 ∷ v) (t.spelled ∙ ap (λ v. t.escape ++ v) r.spelled ∙ sym (append_assoc t.escape r.body (quote ∷ quote ∷ quote ∷ []))) in
+    record {
+      body = quotes quote n ((92 ∷ t.escape) ++ r.body);
+      value = quotes quote n (t.value ∷ r.value);
+      is_body = row-body quote n ((92 ∷ t.escape) ++ r.body) (t.value ∷ r.value) fits (terminals.escape t.is_escape r.is_body);
+      spelled = ap (λ v. quotes quote n v) all ∙ quotes-append quote n ((92 ∷ t.escape) ++ r.body) (quote ∷ quote ∷ quote ∷ []);
+    }
 
 long-end : (quote c : ℕ) (text : List ℕ) → (c == quote) ≡ true → text ≡ [] → LongTail quote (quote ∷ quote ∷ c ∷ text)
 long-end quote c text h none = let first : c ≡ quote = same c quote h in record { body = []; value = []; is_body = terminals.nothing; spelled = cc }
@@ -164,14 +180,24 @@ uchar-body (bodies.Short quote) escape value m u = inl (u m)
 uchar-body (bodies.Long quote) escape value m u = inl (u m)
 
 four-digits : (body : Body) (c : ℕ) (text : List ℕ) (kind : Kind) → (c == 117) ≡ true → DigitsTail body 4 0 kind text → BackslashTail body kind (c ∷ text)
-four-digits body c text kind h t = record { escape = 117 ∷ t.digits; value = hex_number t.digits; rest = t.rest;
-    is_escape = uchar-body body (92 ∷ 117 ∷ t.digits) (hex_number t.digits) t.may (λ s. record { digits = t.digits; spelled = inl (refl, t.count); are_hex = t.are_hex; value = refl; scalar = s });
-    spelled = ap (λ v. v ∷ text) (same c 117 h) ∙ ap (λ v. 117 ∷ v) t.spelled; behind = t.behind }
+four-digits body c text kind h t = record {
+  escape = 117 ∷ t.digits;
+  value = hex_number t.digits;
+  rest = t.rest;
+  is_escape = uchar-body body (92 ∷ 117 ∷ t.digits) (hex_number t.digits) t.may (λ s. record { digits = t.digits; spelled = inl (refl, t.count); are_hex = t.are_hex; value = refl; scalar = s });
+  spelled = ap (λ v. v ∷ text) (same c 117 h) ∙ ap (λ v. 117 ∷ v) t.spelled;
+  behind = t.behind;
+}
 
 eight-digits : (body : Body) (c : ℕ) (text : List ℕ) (kind : Kind) → (c == 85) ≡ true → DigitsTail body 8 0 kind text → BackslashTail body kind (c ∷ text)
-eight-digits body c text kind h t = record { escape = 85 ∷ t.digits; value = hex_number t.digits; rest = t.rest;
-    is_escape = uchar-body body (92 ∷ 85 ∷ t.digits) (hex_number t.digits) t.may (λ s. record { digits = t.digits; spelled = inr (refl, t.count); are_hex = t.are_hex; value = refl; scalar = s });
-    spelled = ap (λ v. v ∷ text) (same c 85 h) ∙ ap (λ v. 85 ∷ v) t.spelled; behind = t.behind }
+eight-digits body c text kind h t = record {
+  escape = 85 ∷ t.digits;
+  value = hex_number t.digits;
+  rest = t.rest;
+  is_escape = uchar-body body (92 ∷ 85 ∷ t.digits) (hex_number t.digits) t.may (λ s. record { digits = t.digits; spelled = inr (refl, t.count); are_hex = t.are_hex; value = refl; scalar = s });
+  spelled = ap (λ v. v ∷ text) (same c 85 h) ∙ ap (λ v. 85 ∷ v) t.spelled;
+  behind = t.behind;
+}
 
 one-letter : (body : Body) (c : ℕ) (text : List ℕ) (kind : Kind) → is_echar body c ≡ true → InsideTail body kind text → BackslashTail body kind (c ∷ text)
 one-letter bodies.Iri c text kind h t = absurd (cc)
@@ -226,56 +252,86 @@ quoted-sound [] (quoted.Backslash body) kind h = absurd (cc)
 quoted-sound [] (quoted.Digits body left value) kind h = absurd (cc)
 quoted-sound [] (quoted.End other) kind h = (some_kind other kind h, refl)
 quoted-sound (c ∷ text) quoted.Less kind h =
-    read-cases (quoted_rows quoted.Less c) text kind (QuotedTail quoted.Less kind (c ∷ text))
-        (λ t r. less-equal c text kind t (quoted-sound text quoted.LessEqual kind r),
-        (λ t r. inr (iri-plain c text kind t (quoted-sound text (quoted.Inside bodies.Iri) kind r)),
-        (λ t r. inr (iri-end c text kind t (quoted-sound text (quoted.End kinds.Iri) kind r)),
-        (λ t r. inr (iri-escape c text kind t (quoted-sound text (quoted.Backslash bodies.Iri) kind r)), tt)))) h
+    read-cases (quoted_rows quoted.Less c) text kind (QuotedTail quoted.Less kind (c ∷ text)) (
+      λ t r. less-equal c text kind t (quoted-sound text quoted.LessEqual kind r),
+      (
+        λ t r. inr (iri-plain c text kind t (quoted-sound text (quoted.Inside bodies.Iri) kind r)),
+        (
+          λ t r. inr (iri-end c text kind t (quoted-sound text (quoted.End kinds.Iri) kind r)),
+          (λ t r. inr (iri-escape c text kind t (quoted-sound text (quoted.Backslash bodies.Iri) kind r)), tt),
+        ),
+      ),
+    ) h
 quoted-sound (c ∷ text) quoted.LessEqual kind h =
-    read-cases (quoted_rows quoted.LessEqual c) text kind (QuotedTail quoted.LessEqual kind (c ∷ text))
-        (λ t r. inr (iri-plain c text kind t (quoted-sound text (quoted.Inside bodies.Iri) kind r)),
-        (λ t r. inr (iri-end c text kind t (quoted-sound text (quoted.End kinds.Iri) kind r)),
-        (λ t r. inr (iri-escape c text kind t (quoted-sound text (quoted.Backslash bodies.Iri) kind r)), tt))) h
+    read-cases (quoted_rows quoted.LessEqual c) text kind (QuotedTail quoted.LessEqual kind (c ∷ text)) (
+      λ t r. inr (iri-plain c text kind t (quoted-sound text (quoted.Inside bodies.Iri) kind r)),
+      (
+        λ t r. inr (iri-end c text kind t (quoted-sound text (quoted.End kinds.Iri) kind r)),
+        (λ t r. inr (iri-escape c text kind t (quoted-sound text (quoted.Backslash bodies.Iri) kind r)), tt),
+      ),
+    ) h
 quoted-sound (c ∷ text) (quoted.Quote quote) kind h =
-    read-cases (quoted_rows (quoted.Quote quote) c) text kind (QuotedTail (quoted.Quote quote) kind (c ∷ text))
-        (λ t r. let s = quoted-sound text (quoted.Inside (bodies.Short quote)) kind r in (s.0, inl (short-plain quote c text t s.1)),
-        (λ t r. let s = quoted-sound text (quoted.TwoQuotes quote) kind r in (s.0, quote-quote quote c text t s.1),
-        (λ t r. let s = quoted-sound text (quoted.Backslash (bodies.Short quote)) kind r in (s.behind.0, inl (short-escape quote c text kind t s)), tt))) h
+    read-cases (quoted_rows (quoted.Quote quote) c) text kind (QuotedTail (quoted.Quote quote) kind (c ∷ text)) (
+      λ t r. let s = quoted-sound text (quoted.Inside (bodies.Short quote)) kind r in (s.0, inl (short-plain quote c text t s.1)),
+      (
+        λ t r. let s = quoted-sound text (quoted.TwoQuotes quote) kind r in (s.0, quote-quote quote c text t s.1),
+        (λ t r. let s = quoted-sound text (quoted.Backslash (bodies.Short quote)) kind r in (s.behind.0, inl (short-escape quote c text kind t s)), tt),
+      ),
+    ) h
 quoted-sound (c ∷ text) (quoted.TwoQuotes quote) kind h =
     read-cases (quoted_rows (quoted.TwoQuotes quote) c) text kind (QuotedTail (quoted.TwoQuotes quote) kind (c ∷ text))
-        (λ t r. let s = quoted-sound text (quoted.Inside (bodies.Long quote)) kind r in (s.0, inr (two-quotes quote c text t s.1)), tt) h
+    (λ t r. let s = quoted-sound text (quoted.Inside (bodies.Long quote)) kind r in (s.0, inr (two-quotes quote c text t s.1)), tt) h
 quoted-sound (c ∷ text) (quoted.Inside bodies.Iri) kind h =
-    read-cases (quoted_rows (quoted.Inside bodies.Iri) c) text kind (QuotedTail (quoted.Inside bodies.Iri) kind (c ∷ text))
-        (λ t r. iri-plain c text kind t (quoted-sound text (quoted.Inside bodies.Iri) kind r),
-        (λ t r. iri-end c text kind t (quoted-sound text (quoted.End kinds.Iri) kind r),
-        (λ t r. iri-escape c text kind t (quoted-sound text (quoted.Backslash bodies.Iri) kind r), tt))) h
+    read-cases (quoted_rows (quoted.Inside bodies.Iri) c) text kind (QuotedTail (quoted.Inside bodies.Iri) kind (c ∷ text)) (
+      λ t r. iri-plain c text kind t (quoted-sound text (quoted.Inside bodies.Iri) kind r),
+      (
+        λ t r. iri-end c text kind t (quoted-sound text (quoted.End kinds.Iri) kind r),
+        (λ t r. iri-escape c text kind t (quoted-sound text (quoted.Backslash bodies.Iri) kind r), tt),
+      ),
+    ) h
 quoted-sound (c ∷ text) (quoted.Inside (bodies.Short quote)) kind h =
-    read-cases (quoted_rows (quoted.Inside (bodies.Short quote)) c) text kind (QuotedTail (quoted.Inside (bodies.Short quote)) kind (c ∷ text))
-        (λ t r. let s = quoted-sound text (quoted.Inside (bodies.Short quote)) kind r in (s.0, short-plain quote c text t s.1),
-        (λ t r. let s = quoted-sound text (quoted.End kinds.String) kind r in (s.0, short-end quote c text t s.1),
-        (λ t r. let s = quoted-sound text (quoted.Backslash (bodies.Short quote)) kind r in (s.behind.0, short-escape quote c text kind t s), tt))) h
+    read-cases (quoted_rows (quoted.Inside (bodies.Short quote)) c) text kind (QuotedTail (quoted.Inside (bodies.Short quote)) kind (c ∷ text)) (
+      λ t r. let s = quoted-sound text (quoted.Inside (bodies.Short quote)) kind r in (s.0, short-plain quote c text t s.1),
+      (
+        λ t r. let s = quoted-sound text (quoted.End kinds.String) kind r in (s.0, short-end quote c text t s.1),
+        (λ t r. let s = quoted-sound text (quoted.Backslash (bodies.Short quote)) kind r in (s.behind.0, short-escape quote c text kind t s), tt),
+      ),
+    ) h
 quoted-sound (c ∷ text) (quoted.Inside (bodies.Long quote)) kind h =
-    read-cases (quoted_rows (quoted.Inside (bodies.Long quote)) c) text kind (QuotedTail (quoted.Inside (bodies.Long quote)) kind (c ∷ text))
-        (λ t r. let s = quoted-sound text (quoted.Inside (bodies.Long quote)) kind r in (s.0, long-plain quote 0 c text (omega arith) t s.1),
-        (λ t r. let s = quoted-sound text (quoted.OneInside quote) kind r in (s.0, one-quote quote c text (LongTail quote) t s.1),
-        (λ t r. let s = quoted-sound text (quoted.Backslash (bodies.Long quote)) kind r in (s.behind.0, long-escape quote 0 c text kind (omega arith) t s), tt))) h
+    read-cases (quoted_rows (quoted.Inside (bodies.Long quote)) c) text kind (QuotedTail (quoted.Inside (bodies.Long quote)) kind (c ∷ text)) (
+      λ t r. let s = quoted-sound text (quoted.Inside (bodies.Long quote)) kind r in (s.0, long-plain quote 0 c text (omega arith) t s.1),
+      (
+        λ t r. let s = quoted-sound text (quoted.OneInside quote) kind r in (s.0, one-quote quote c text (LongTail quote) t s.1),
+        (λ t r. let s = quoted-sound text (quoted.Backslash (bodies.Long quote)) kind r in (s.behind.0, long-escape quote 0 c text kind (omega arith) t s), tt),
+      ),
+    ) h
 quoted-sound (c ∷ text) (quoted.OneInside quote) kind h =
-    read-cases (quoted_rows (quoted.OneInside quote) c) text kind (QuotedTail (quoted.OneInside quote) kind (c ∷ text))
-        (λ t r. let s = quoted-sound text (quoted.Inside (bodies.Long quote)) kind r in (s.0, long-plain quote 1 c text (omega arith) t s.1),
-        (λ t r. let s = quoted-sound text (quoted.TwoInside quote) kind r in (s.0, one-quote quote c text (λ v. LongTail quote (quote ∷ v)) t s.1),
-        (λ t r. let s = quoted-sound text (quoted.Backslash (bodies.Long quote)) kind r in (s.behind.0, long-escape quote 1 c text kind (omega arith) t s), tt))) h
+    read-cases (quoted_rows (quoted.OneInside quote) c) text kind (QuotedTail (quoted.OneInside quote) kind (c ∷ text)) (
+      λ t r. let s = quoted-sound text (quoted.Inside (bodies.Long quote)) kind r in (s.0, long-plain quote 1 c text (omega arith) t s.1),
+      (
+        λ t r. let s = quoted-sound text (quoted.TwoInside quote) kind r in (s.0, one-quote quote c text (λ v. LongTail quote (quote ∷ v)) t s.1),
+        (λ t r. let s = quoted-sound text (quoted.Backslash (bodies.Long quote)) kind r in (s.behind.0, long-escape quote 1 c text kind (omega arith) t s), tt),
+      ),
+    ) h
 quoted-sound (c ∷ text) (quoted.TwoInside quote) kind h =
-    read-cases (quoted_rows (quoted.TwoInside quote) c) text kind (QuotedTail (quoted.TwoInside quote) kind (c ∷ text))
-        (λ t r. let s = quoted-sound text (quoted.Inside (bodies.Long quote)) kind r in (s.0, long-plain quote 2 c text (omega arith) t s.1),
-        (λ t r. let s = quoted-sound text (quoted.End kinds.String) kind r in (s.0, long-end quote c text t s.1),
-        (λ t r. let s = quoted-sound text (quoted.Backslash (bodies.Long quote)) kind r in (s.behind.0, long-escape quote 2 c text kind (omega arith) t s), tt))) h
+    read-cases (quoted_rows (quoted.TwoInside quote) c) text kind (QuotedTail (quoted.TwoInside quote) kind (c ∷ text)) (
+      λ t r. let s = quoted-sound text (quoted.Inside (bodies.Long quote)) kind r in (s.0, long-plain quote 2 c text (omega arith) t s.1),
+      (
+        λ t r. let s = quoted-sound text (quoted.End kinds.String) kind r in (s.0, long-end quote c text t s.1),
+        (λ t r. let s = quoted-sound text (quoted.Backslash (bodies.Long quote)) kind r in (s.behind.0, long-escape quote 2 c text kind (omega arith) t s), tt),
+      ),
+    ) h
 quoted-sound (c ∷ text) (quoted.Backslash body) kind h =
-    read-cases (quoted_rows (quoted.Backslash body) c) text kind (QuotedTail (quoted.Backslash body) kind (c ∷ text))
-        (λ t r. four-digits body c text kind t (quoted-sound text (quoted.Digits body 4 0) kind r (omega arith)),
-        (λ t r. eight-digits body c text kind t (quoted-sound text (quoted.Digits body 8 0) kind r (omega arith)),
-        (λ t r. one-letter body c text kind t (quoted-sound text (quoted.Inside body) kind r), tt))) h
+    read-cases (quoted_rows (quoted.Backslash body) c) text kind (QuotedTail (quoted.Backslash body) kind (c ∷ text)) (
+      λ t r. four-digits body c text kind t (quoted-sound text (quoted.Digits body 4 0) kind r (omega arith)),
+      (
+        λ t r. eight-digits body c text kind t (quoted-sound text (quoted.Digits body 8 0) kind r (omega arith)),
+        (λ t r. one-letter body c text kind t (quoted-sound text (quoted.Inside body) kind r), tt),
+      ),
+    ) h
 quoted-sound (c ∷ text) (quoted.Digits body left value) kind h =
-    read-cases (quoted_rows (quoted.Digits body left value) c) text kind (QuotedTail (quoted.Digits body left value) kind (c ∷ text))
-        (λ t r. λ some. digit-more body left value c text kind t (quoted-sound text (quoted.Digits body (left - 1) (with_digit value c)) kind r),
-        (λ t r. λ some. digit-last body left value c text kind t some (quoted-sound text (quoted.Inside body) kind r), tt)) h
+    read-cases (quoted_rows (quoted.Digits body left value) c) text kind (QuotedTail (quoted.Digits body left value) kind (c ∷ text)) (
+      λ t r. λ some. digit-more body left value c text kind t (quoted-sound text (quoted.Digits body (left - 1) (with_digit value c)) kind r),
+      (λ t r. λ some. digit-last body left value c text kind t some (quoted-sound text (quoted.Inside body) kind r), tt),
+    ) h
 quoted-sound (c ∷ text) (quoted.End other) kind h = absurd (cc)

@@ -75,6 +75,7 @@ covers (c ∷ a) b state kind n found h was =
   where
     again : (next : State) → kind_of next ≡ Some kind → or_found (kind_of next) (suc n) found ≡ Some (kind, suc n)
     again next e = rw e refl
+
     go : (o : Option State) → read_next o (λ next. reads a next) ≡ Some kind
         → ((next : State) → reads a next ≡ Some kind → AtLeast kind (suc n + length a) (scan (a ++ b) next (suc n) (or_found (kind_of next) (suc n) found)))
         → AtLeast kind (n + suc (length a)) (with_next o (λ next. scan (a ++ b) next (suc n) (or_found (kind_of next) (suc n) found)) found)
@@ -118,11 +119,13 @@ finds (c ∷ text) state n found kind end h =
     one next (Some other) e k h =
         let same = same-kind other kind (suc n) end h in
         inr (record { front = c ∷ []; rest = text; is = refl; place = omega (arith, same.1); read = rw e (k ∙ ap (λ v. Some v) same.0) })
+
     many : (next : State) → step state c ≡ Some next → Begins text next (suc n) kind end → Begins (c ∷ text) state n kind end
     many next e b = record { front = c ∷ b.front; rest = b.rest; is = ap (λ v. c ∷ v) b.is; place = omega (arith, b.place); read = rw e b.read }
+
     go : (o : Option State) → step state c ≡ o
         → ((next : State) → scan text next (suc n) (or_found (kind_of next) (suc n) found) ≡ found_at kind end
-            → (or_found (kind_of next) (suc n) found ≡ found_at kind end) ⊎ Begins text next (suc n) kind end)
+        → (or_found (kind_of next) (suc n) found ≡ found_at kind end) ⊎ Begins text next (suc n) kind end)
         → with_next o (λ next. scan text next (suc n) (or_found (kind_of next) (suc n) found)) found ≡ found_at kind end
         → (found ≡ found_at kind end) ⊎ Begins (c ∷ text) state n kind end
     go None e more h = inl h

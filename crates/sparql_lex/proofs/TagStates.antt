@@ -53,18 +53,20 @@ tag-sound [] tags.Hyphen kind h = absurd (cc)
 tag-sound [] tags.Subtag kind h = (some_kind kinds.Lang kind h, ends is_alphanumeric)
 tag-sound (c ∷ text) tags.At kind h =
     read-cases (tag_rows tags.At c) text kind (Tail tags.At kind (c ∷ text))
-        (λ t r. let l = tag-sound text tags.Primary kind r in (l.0, tag-first c text t l.1), tt) h
+    (λ t r. let l = tag-sound text tags.Primary kind r in (l.0, tag-first c text t l.1), tt) h
 tag-sound (c ∷ text) tags.Primary kind h =
-    read-cases (tag_rows tags.Primary c) text kind (Tail tags.Primary kind (c ∷ text))
-        (λ t r. let l = tag-sound text tags.Primary kind r in (l.0, one-more is_letter c text t l.1),
-        (λ t r. let l = tag-sound text tags.Hyphen kind r in (l.0, hyphened is_letter c text t l.1), tt)) h
+    read-cases (tag_rows tags.Primary c) text kind (Tail tags.Primary kind (c ∷ text)) (
+      λ t r. let l = tag-sound text tags.Primary kind r in (l.0, one-more is_letter c text t l.1),
+      (λ t r. let l = tag-sound text tags.Hyphen kind r in (l.0, hyphened is_letter c text t l.1), tt),
+    ) h
 tag-sound (c ∷ text) tags.Hyphen kind h =
     read-cases (tag_rows tags.Hyphen c) text kind (Tail tags.Hyphen kind (c ∷ text))
-        (λ t r. let l = tag-sound text tags.Subtag kind r in (l.0, subtag-first c text t l.1), tt) h
+    (λ t r. let l = tag-sound text tags.Subtag kind r in (l.0, subtag-first c text t l.1), tt) h
 tag-sound (c ∷ text) tags.Subtag kind h =
-    read-cases (tag_rows tags.Subtag c) text kind (Tail tags.Subtag kind (c ∷ text))
-        (λ t r. let l = tag-sound text tags.Subtag kind r in (l.0, one-more is_alphanumeric c text t l.1),
-        (λ t r. let l = tag-sound text tags.Hyphen kind r in (l.0, hyphened is_alphanumeric c text t l.1), tt)) h
+    read-cases (tag_rows tags.Subtag c) text kind (Tail tags.Subtag kind (c ∷ text)) (
+      λ t r. let l = tag-sound text tags.Subtag kind r in (l.0, one-more is_alphanumeric c text t l.1),
+      (λ t r. let l = tag-sound text tags.Hyphen kind r in (l.0, hyphened is_alphanumeric c text t l.1), tt),
+    ) h
 
 letter-step : (c : ℕ) (text : List ℕ) → is_letter c ≡ true → reads (c ∷ text) (states.Tag tags.Primary) ≡ reads text (states.Tag tags.Primary)
 unfolding step
@@ -121,7 +123,7 @@ language-read text h =
     let t = h.is_tag in
     let r = tag-read t.primary t.subtags t.some t.letters t.are_subtags in
     subst (λ v. reads v states.Start ≡ Some kinds.Lang) (sym h.spelled)
-        (at-begins h.tag ∙ subst (λ v. reads v (states.Tag tags.At) ≡ Some kinds.Lang) (sym t.spelled) r)
+    (at-begins h.tag ∙ subst (λ v. reads v (states.Tag tags.At) ≡ Some kinds.Lang) (sym t.spelled) r)
 
 pub language-token : (text : List ℕ) → IsTag text → IsLanguage (64 ∷ text)
 language-token text h = record { tag = text; is_tag = h; spelled = refl }

@@ -75,6 +75,7 @@ word-scan (c ∷ text) n h = go (is_word_part c) refl (is_pn c) refl (c == 46) r
   where
     none : a_word n ≡ a_word (n + 0)
     none = let e : n ≡ n + 0 = omega arith in ap (λ v. a_word v) e
+
     go : (w : Bool) → is_word_part c ≡ w → (t : Bool) → is_pn c ≡ t → (u : Bool) → (c == 46) ≡ u
         → (ends_prefix text true ≡ false → scan text (states.Name names.Word) (suc n) (a_word (suc n)) ≡ a_word (suc n + run is_word_part text))
         → cond t (ends_prefix text true) (cond u (ends_prefix text false) (c == 58)) ≡ false

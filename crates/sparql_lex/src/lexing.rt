@@ -32,10 +32,11 @@ fn front_at(text: &[char], index: usize, known: &mut usize) -> Front
     ensures sound { NoPrefix text.now index known.new }
 {
     let (_, rest) = text.split_at(index);
-    if is_space(rest[0]) {
+    let first = rest[0];
+    if is_space(first) {
         return Front::Skip(1);
     }
-    if rest[0] == '#' {
+    if first == '#' {
         return Front::Skip(line_run(rest));
     }
     match token_at(text, index, known) {

@@ -8,7 +8,7 @@ invariant-fronts l = record {
   within : l.index ≤ length l.text;
   place : l.at ≡ width (take l.index l.text);
   cut : Lexes 0 l.text l.found l.at (drop l.index l.text);
-  known : NoPrefix l.text l.index l.known
+  known : NoPrefix l.text l.index l.known;
 }
 
 abbrev pub decreases-fronts : goal.decreases-fronts
