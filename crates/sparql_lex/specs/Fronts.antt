@@ -7,9 +7,11 @@ use Rattle.sparql_lex.specs.declared.lexing.Front.TheVariants as fronts
 
 -- characters to skip, a token, or nothing that is allowed
 abbrev pub FrontIs : List ℕ → Front → Type 0
-FrontIs text (fronts.Skip n) = (0 < n) × (n ≤ length text) × ((at : ℕ) → Lexes at text [] (at + width (take n text)) (drop n text))
+FrontIs text (fronts.Skip n) = (0 < n) × (n ≤ length text)
+    × ((at : ℕ) → Lexes at text [] (at + width (take n text)) (drop n text))
 FrontIs text (fronts.Next kind n) = (0 < n) × (n ≤ length text)
-    × ((at : ℕ) → Lexes at text (token kind at (at + width (take n text)) ∷ []) (at + width (take n text)) (drop n text))
+    × ((at : ℕ) → Lexes at text (token kind at (at + width (take n text)) ∷ []) (at + width (take n text))
+    (drop n text))
 FrontIs text fronts.Nothing = IsStuck text
 
 -- the characters have these tokens

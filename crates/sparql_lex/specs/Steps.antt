@@ -1,10 +1,12 @@
 -- The states of a token that is read a character at a time, and what leads from one to the next.
-use Rattle.std.specs.Prelude.{◌≡◌, ◌+◌, ◌-◌, ◌*◌, ℕ, Bool, true, false, ◌||◌, ◌&&◌, ◌==◌, not, nat_lt, codes, cond, List, [], ◌∷◌, Option, Some, None}
+use Rattle.std.specs.Prelude.{◌≡◌, ◌+◌, ◌-◌, ◌*◌, ℕ, Bool, true, false, ◌||◌, ◌&&◌, ◌==◌, not, nat_lt, codes, cond}
+use Rattle.std.specs.Prelude.{List, [], ◌∷◌, Option, Some, None}
 use Rattle.std.specs.Char.{digit_value}
 use lib.Utf8.{scalar}
 use Rattle.term_core.specs.Characters.{is_among, is_digit, is_letter, is_hex, is_iri, is_pn_base, is_pn_u, is_pn}
 use Rattle.term_core.specs.Names.{is_alphanumeric}
-use Rattle.term_core.specs.Terminals.{is_local_escape, is_local_part, is_label_first, is_variable_part, is_quote, is_plain_in, is_long_plain, is_word_part}
+use Rattle.term_core.specs.Terminals.{is_local_escape, is_local_part, is_label_first, is_variable_part, is_word_part}
+use Rattle.term_core.specs.Terminals.{is_quote, is_plain_in, is_long_plain}
 use Rattle.term_core.specs.declared.token.Kind.{Kind}
 use Rattle.term_core.specs.declared.token.Kind.TheVariants as kinds
 use Rattle.sparql_lex.specs.declared.state.State.{State}
@@ -64,13 +66,15 @@ first_of [] = None
 first_of (row ∷ rows) = cond row.0 (Some row.1) (first_of rows)
 
 abbrev pub start_rows : ℕ → List Row
-start_rows c = (is_letter c, states.Name names.Word) ∷ (is_pn_base c, states.Name names.Prefix) ∷ (is_digit c, states.Number numbers.Integer)
+start_rows c = (is_letter c, states.Name names.Word) ∷ (is_pn_base c, states.Name names.Prefix)
+    ∷ (is_digit c, states.Number numbers.Integer)
     ∷ (c == 58, states.Name names.Colon) ∷ (c == 95, states.Label labels.Underscore)
     ∷ (c == 63, states.Variable variables.Question) ∷ (c == 36, states.Variable variables.Dollar)
     ∷ (c == 64, states.Tag tags.At) ∷ (c == 46, states.Number numbers.Dot) ∷ (c == 60, states.Quoted quoted.Less)
     ∷ (is_quote c, states.Quoted (quoted.Quote c)) ∷ (c == 94, states.Mark (marks.First true 94))
     ∷ (c == 38, states.Mark (marks.First false 38)) ∷ (c == 124, states.Mark (marks.First true 124))
-    ∷ (is_among (codes "!>") c, states.Mark (marks.First true 61)) ∷ (is_among (codes "{}()[],;=+-*/") c, states.Mark marks.End) ∷ []
+    ∷ (is_among (codes "!>") c, states.Mark (marks.First true 61))
+    ∷ (is_among (codes "{}()[],;=+-*/") c, states.Mark marks.End) ∷ []
 
 abbrev pub mark_rows : Mark → ℕ → List Row
 mark_rows (marks.First alone second) c = (c == second, states.Mark marks.End) ∷ []
@@ -115,7 +119,8 @@ abbrev pub number_rows : Number → ℕ → List Row
 number_rows numbers.Dot c = (is_digit c, states.Number numbers.Decimal) ∷ []
 number_rows numbers.Integer c = (is_digit c, states.Number numbers.Integer) ∷ (c == 46, states.Number numbers.Point)
     ∷ (is_exponent c, states.Number numbers.Exponent) ∷ []
-number_rows numbers.Exponent c = (is_digit c, states.Number numbers.Double) ∷ (is_among (codes "+-") c, states.Number numbers.ExponentSign) ∷ []
+number_rows numbers.Exponent c = (is_digit c, states.Number numbers.Double)
+    ∷ (is_among (codes "+-") c, states.Number numbers.ExponentSign) ∷ []
 number_rows numbers.ExponentSign c = (is_digit c, states.Number numbers.Double) ∷ []
 number_rows numbers.Double c = (is_digit c, states.Number numbers.Double) ∷ []
 number_rows _ c = (is_digit c, states.Number numbers.Decimal) ∷ (is_exponent c, states.Number numbers.Exponent) ∷ []
@@ -183,9 +188,11 @@ quoted_rows (quoted.TwoQuotes quote) c = (c == quote, inside (bodies.Long quote)
 quoted_rows (quoted.Inside body) c = inside_rows body c
 quoted_rows (quoted.OneInside quote) c = long_rows quote (states.Quoted (quoted.TwoInside quote)) c
 quoted_rows (quoted.TwoInside quote) c = long_rows quote (end_of kinds.String) c
-quoted_rows (quoted.Backslash body) c = (c == 117, states.Quoted (quoted.Digits body 4 0)) ∷ (c == 85, states.Quoted (quoted.Digits body 8 0))
+quoted_rows (quoted.Backslash body) c = (c == 117, states.Quoted (quoted.Digits body 4 0))
+    ∷ (c == 85, states.Quoted (quoted.Digits body 8 0))
     ∷ (is_echar body c, inside body) ∷ []
-quoted_rows (quoted.Digits body left value) c = (is_next value c && nat_lt 1 left, states.Quoted (quoted.Digits body (left - 1) (with_digit value c)))
+quoted_rows (quoted.Digits body left value) c =
+    (is_next value c && nat_lt 1 left, states.Quoted (quoted.Digits body (left - 1) (with_digit value c)))
     ∷ ((is_next value c && not (nat_lt 1 left)) && may_spell body (with_digit value c), inside body) ∷ []
 quoted_rows (quoted.End kind) c = []
 

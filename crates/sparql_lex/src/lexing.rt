@@ -70,13 +70,18 @@ fn width_at(text: &[char], index: usize, n: usize) -> usize
 
 /// The tokens of the characters.
 ///
-/// Each character is looked at a bounded number of times, whatever the text: those of a space, a
-/// comment or a token are read once for it. Beyond its end a token is read on only where a longer one
-/// might stand: behind `<` up to the next `<`; behind two quotes to the text's end or to an escape that
-/// is none, before which no three such quotes stand with which a token could begin; behind a word to
-/// the end of a run of names and dots, once for all of its words; behind dots in a name to the end of
-/// the dots; and one or two characters behind a number, a tag, `%` and a backslash. A string in quotes
-/// that is not closed ends the reading.
+/// Each character is looked at a bounded number of times, whatever the text. Those of a space, a
+/// comment or a token are read once for it. Behind the end of a token more is read only where a longer
+/// one might stand:
+/// - behind the sign `<` up to the next `<`, which no IRI holds;
+/// - behind `""` or `''`, where three quotes open no long string, up to the text's end or to a wrong
+///   escape. No more than one such opening begins in between, two characters on: three quotes in a row
+///   would close the string unless a backslash stands before them, and no token ends in a backslash;
+/// - behind a word up to the end of a run of names and dots, once for all of its words (`token_at`);
+/// - behind a name up to the end of the dots that follow it;
+/// - one or two characters behind a number, a tag, `%` and a backslash.
+///
+/// Any other string that is not closed ends the reading.
 fn lex(alloc: Global, text: &[char]) -> Result<Items<Token>, LexFault>
     requires { width text.now < 2 ^ 64 }
     ensures found { IfOk result (IsCut text.now) }

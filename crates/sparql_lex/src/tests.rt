@@ -267,3 +267,30 @@ fn cuts_numbers_and_comments(rt: HostRuntime) -> Result<(), AllocError> {
     }
     Ok(())
 }
+
+/// Texts of the greatest length of a query, of one piece again and again. A reading that went to the end
+/// from each piece would not be done in the time of a test.
+#[test]
+fn reads_long_texts(rt: HostRuntime) -> Result<(), AllocError> {
+    let alloc = rt.alloc();
+    let table: [(&[u8], &[u8], Result<usize, LexFault>); 9] = [
+        (b"", b"a.", Ok(262_144)),
+        (b"", b"a", Ok(1)),
+        (b"", b"<", Ok(262_144)),
+        (b"", b"<=", Ok(131_072)),
+        (b":a", b"..", Ok(262_143)),
+        (b"", b"\"a \"", Ok(65_536)),
+        (b"\"\"\"", b"a ", Err(LexFault::Lex { at: 2 })),
+        (b"\"\"\"", b"\\\"\"\"x", Err(LexFault::Lex { at: 262_141 })),
+        (b"#", b"\"\"\"", Ok(0)),
+    ];
+    for (front, piece, expected) in table {
+        let mut text = Vec::from_slice(alloc, front)?;
+        while text.len() + piece.len() <= 262_144 {
+            text.extend_from_slice(piece)?;
+        }
+        let found = tokens(alloc, text.as_slice()).map(|found| found.len());
+        assert_eq!(rt; found, expected, "{piece:?}");
+    }
+    Ok(())
+}

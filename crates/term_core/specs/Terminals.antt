@@ -1,7 +1,8 @@
 -- The terminals of a query text, each the language of a kind of token, on lists of characters (SPARQL 1.1 19.8).
 use Rattle.std.specs.Prelude.{◌≡◌, ◌≢◌, ◌⊎◌, ◌<◌, suc, ◌++◌, ℕ, Bool, true, ◌||◌, ◌==◌, not, codes, List, [], ◌∷◌}
 use Rattle.term_core.specs.Bags.{In}
-use Rattle.term_core.specs.Characters.{is_among, is_in_ranges, pn_more_ranges, is_digit, is_letter, is_hex, is_pn_base, is_pn_u, is_pn, AreAll}
+use Rattle.term_core.specs.Characters.{is_among, is_in_ranges, pn_more_ranges, is_digit, is_letter, is_hex, AreAll}
+use Rattle.term_core.specs.Characters.{is_pn_base, is_pn_u, is_pn}
 use Rattle.term_core.specs.Escapes.{IsEscaped, IsIriBody, IsStringEscape}
 use Rattle.term_core.specs.Names.{IsName, IsTag}
 use Rattle.term_core.specs.declared.token.Kind.{Kind}
@@ -32,7 +33,8 @@ pub data AreLocalParts : List ℕ → Type 0 where
   no_part : AreLocalParts []
   part : {c : ℕ} {text : List ℕ} → is_local_part c ≡ true → AreLocalParts text → AreLocalParts (c ∷ text)
   dot : {text : List ℕ} → text ≢ [] → AreLocalParts text → AreLocalParts (46 ∷ text)
-  percent : {c d : ℕ} {text : List ℕ} → is_hex c ≡ true → is_hex d ≡ true → AreLocalParts text → AreLocalParts (37 ∷ c ∷ d ∷ text)
+  percent : {c d : ℕ} {text : List ℕ} → is_hex c ≡ true → is_hex d ≡ true → AreLocalParts text
+      → AreLocalParts (37 ∷ c ∷ d ∷ text)
   backslash : {c : ℕ} {text : List ℕ} → is_local_escape c ≡ true → AreLocalParts text → AreLocalParts (92 ∷ c ∷ text)
 
 -- how a local name may begin: as a label, or by an escape (SPARQL 1.1 19.8, PN_LOCAL)
@@ -97,8 +99,8 @@ pub record IsShortString (text : List ℕ) : Type 0 where
 abbrev pub is_long_plain : ℕ → ℕ → Bool
 is_long_plain quote c = not ((c == quote) || (c == 92))
 
--- what stands in a long string behind so many of its quotes in a row, and what it spells: never three quotes in a row, and
--- none at the end, so that the first three end the string (SPARQL 1.1 19.8, STRING_LITERAL_LONG1 and STRING_LITERAL_LONG2)
+-- what stands in a long string behind so many of its quotes in a row, and what it spells: never three quotes in a row,
+-- and none at the end, so that the first three end the string (SPARQL 1.1 19.8, STRING_LITERAL_LONG1 and _LONG2)
 pub data IsLongBody (quote : ℕ) : ℕ → List ℕ → List ℕ → Type 0 where
   nothing : IsLongBody quote 0 [] []
   one_quote : {row : ℕ} {text value : List ℕ} → row < 2 → IsLongBody quote (suc row) text value
@@ -148,7 +150,8 @@ pub record IsExponent (text : List ℕ) : Type 0 where
   pub digits : List ℕ
   pub is_letter : is_among (codes "eE") letter ≡ true
   pub are_digits : IsInteger digits
-  pub spelled : (text ≡ letter ∷ digits) ⊎ ((sign : ℕ) × (is_among (codes "+-") sign ≡ true) × (text ≡ letter ∷ sign ∷ digits))
+  pub spelled : (text ≡ letter ∷ digits)
+      ⊎ ((sign : ℕ) × (is_among (codes "+-") sign ≡ true) × (text ≡ letter ∷ sign ∷ digits))
 
 -- an integer, a decimal, or digits and a point, with an exponent (SPARQL 1.1 19.8, DOUBLE)
 pub record IsDouble (text : List ℕ) : Type 0 where
@@ -169,9 +172,9 @@ IsWord (c ∷ text) = (is_letter c ≡ true) × AreAll is_word_part text
 
 -- the operators and marks of the grammar (SPARQL 1.1 19.8)
 abbrev pub signs : List (List ℕ)
-signs = codes "^^" ∷ codes "&&" ∷ codes "||" ∷ codes "!=" ∷ codes "<=" ∷ codes ">=" ∷ codes "{" ∷ codes "}" ∷ codes "(" ∷ codes ")"
-    ∷ codes "[" ∷ codes "]" ∷ codes "." ∷ codes "," ∷ codes ";" ∷ codes "=" ∷ codes "<" ∷ codes ">" ∷ codes "!" ∷ codes "+" ∷ codes "-"
-    ∷ codes "*" ∷ codes "/" ∷ codes "|" ∷ codes "^" ∷ codes "?" ∷ []
+signs = codes "^^" ∷ codes "&&" ∷ codes "||" ∷ codes "!=" ∷ codes "<=" ∷ codes ">=" ∷ codes "{" ∷ codes "}"
+    ∷ codes "(" ∷ codes ")" ∷ codes "[" ∷ codes "]" ∷ codes "." ∷ codes "," ∷ codes ";" ∷ codes "=" ∷ codes "<"
+    ∷ codes ">" ∷ codes "!" ∷ codes "+" ∷ codes "-" ∷ codes "*" ∷ codes "/" ∷ codes "|" ∷ codes "^" ∷ codes "?" ∷ []
 
 -- all the characters together are one token of the kind
 abbrev pub IsToken : Kind → List ℕ → Type 0

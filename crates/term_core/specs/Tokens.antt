@@ -1,5 +1,7 @@
--- A query text is cut into tokens, spaces and comments, each token the longest that begins at its place (SPARQL 1.1 19.1, 19.4, 19.8).
-use Rattle.std.specs.Prelude.{◌≡◌, ◌⊎◌, ◌≤◌, ◌+◌, ◌++◌, ℕ, Bool, true, false, not, codes, List, [], ◌∷◌, length, encode_utf8_all, IsUtf8}
+-- A query text is cut into tokens, spaces and comments, each token the longest that begins at its place
+-- (SPARQL 1.1 19.4 and 19.8).
+use Rattle.std.specs.Prelude.{◌≡◌, ◌⊎◌, ◌≤◌, ◌+◌, ◌++◌, ℕ, Bool, true, false, not, codes, List, [], ◌∷◌, length}
+use Rattle.std.specs.Prelude.{encode_utf8_all, IsUtf8}
 use Rattle.std.specs.Str.{chars}
 use Rattle.std.specs.Str.Lossy.{utf8_valid_len}
 use Rattle.term_core.specs.Characters.{is_among, AreAll}
@@ -42,7 +44,8 @@ pub data Lexes : ℕ → List ℕ → List Token → ℕ → List ℕ → Type 0
   comment : {at end : ℕ} (line : List ℕ) {text rest : List ℕ} {ts : List Token} → AreAll is_in_line line → EndsLine text
       → Lexes (at + width (35 ∷ line)) text ts end rest → Lexes at (35 ∷ (line ++ text)) ts end rest
   next : {at end : ℕ} {kind : Kind} {front text rest : List ℕ} {ts : List Token} → IsLongest kind front text
-      → Lexes (at + width front) text ts end rest → Lexes at (front ++ text) (token kind at (at + width front) ∷ ts) end rest
+      → Lexes (at + width front) text ts end rest
+      → Lexes at (front ++ text) (token kind at (at + width front) ∷ ts) end rest
 
 -- the whole text, bytes that are UTF-8, has these tokens
 pub record Tokens (text : List ℕ) (ts : List Token) : Type 0 where
