@@ -9,3 +9,5 @@ pub mod Characters
 pub mod Escapes
 pub mod Names
 pub mod Spelling
+pub mod Terminals
+pub mod Tokens

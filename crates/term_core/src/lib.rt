@@ -11,6 +11,7 @@ mod term;
 #[cfg(test)]
 mod tests;
 mod text;
+mod token;
 
 pub use characters::{is_pn, is_pn_base, is_pn_u};
 pub use copies::TryCopy;
@@ -23,3 +24,4 @@ pub use pattern::{IdTriple, Pattern, Place};
 pub use row::Row;
 pub use term::{NotATriple, Term, Triple, check_triple, compare, compare_is_total, size};
 pub use text::{Memory, Text, TextFault};
+pub use token::{Kind, Token};

@@ -1,0 +1,17 @@
+pub mod Bools
+pub mod Reading
+pub mod Widths
+pub mod NameStates
+pub mod LabelStates
+pub mod TagStates
+pub mod MarkStates
+pub mod NumberStates
+pub mod QuotedTails
+pub mod QuotedStates
+pub mod KindStates
+pub mod LongestTokens
+pub mod Cuts
+pub mod WordRuns
+pub mod Cutting
+pub mod Places
+pub mod Readings

@@ -1,0 +1,4 @@
+pub mod Steps
+pub mod Scan
+pub mod Names
+pub mod Fronts
