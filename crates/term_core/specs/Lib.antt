@@ -5,3 +5,4 @@ pub mod Ids
 pub mod Bags
 pub mod Mappings
 pub mod Texts
+pub mod Numbers

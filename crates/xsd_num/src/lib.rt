@@ -1,0 +1,18 @@
+//! Exact numbers of XML Schema: integers and decimals within 128 bits, read, computed with, ordered and written.
+#![tactic(auto)]
+
+mod arithmetic;
+mod exact;
+//mod law;
+//mod lexical;
+mod num;
+//mod order;
+//#[cfg(test)]
+//mod tests;
+//mod write;
+
+pub use arithmetic::{abs, add, mul, neg, sub};
+//pub use lexical::read;
+pub use num::{Num, NumFault, is_kept};
+//pub use order::cmp;
+//pub use write::write;
