@@ -6,7 +6,7 @@ mod exact;
 //mod law;
 //mod lexical;
 mod num;
-//mod order;
+mod order;
 //#[cfg(test)]
 //mod tests;
 //mod write;
@@ -14,5 +14,5 @@ mod num;
 pub use arithmetic::{abs, add, mul, neg, sub};
 //pub use lexical::read;
 pub use num::{Num, NumFault, is_kept};
-//pub use order::cmp;
+pub use order::cmp;
 //pub use write::write;

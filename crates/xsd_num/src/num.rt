@@ -1,6 +1,7 @@
 //! The numbers, and the form in which they are kept.
 
-ghost use Rattle.std.specs.Prelude.{◌≡◌};
+ghost use Rattle.std.specs.Prelude.{◌≡◌, ◌≤◌, ◌^◌, unsigned_abs};
+ghost use Rattle.std.specs.Int.{is_negative};
 ghost use Rattle.term_core.specs.Numbers.{is_kept, scale, numerator, are_whole};
 ghost use Rattle.xsd_num.specs.Values.{number_of};
 
@@ -59,4 +60,19 @@ pub fn are_whole(a: Num, b: Num) -> bool
     ensures { result ≡ are_whole (number_of a) (number_of b) }
 {
     matches!((a, b), (Num::Whole(_), Num::Whole(_)))
+}
+
+/// Whether a number is below zero.
+pub fn is_minus(a: Num) -> bool
+    ensures { result ≡ is_negative (numerator (number_of a)) }
+{
+    numerator(a) < 0
+}
+
+/// `|m|`, of a number `m * 10^-s`.
+pub fn magnitude(a: Num) -> u128
+    ensures exact { result ≡ unsigned_abs (numerator (number_of a)) }
+    ensures bound { result ≤ 2 ^ 127 }
+{
+    numerator(a).unsigned_abs()
 }
