@@ -1,3 +1,5 @@
 pub mod Trims
 pub mod Held
 pub mod Places
+pub mod Digits
+pub mod Texts

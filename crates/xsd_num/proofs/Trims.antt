@@ -3,7 +3,7 @@ use Rattle.std.proofs.Common.{◌≡◌, ◌≢◌, ℕ, zero, suc, ◌+◌, ◌
 use Rattle.std.proofs.lemmas.Grind.{common_steps}
 use Rattle.std.proofs.Common.{sym}
 use Rattle.std.specs.Prelude.{unsigned_abs, IsTrue, IfSome, Option, Some, None, not, ◌&&◌, ◌||◌, nat_le}
-use Rattle.term_core.specs.Numbers.{trimmed, signed, is_kept, held_decimal, is_held}
+use Rattle.term_core.specs.Numbers.{trimmed, signed, is_kept, held_decimal, least_decimal, is_held}
 use Rattle.xsd_num.specs.Values.{number_of, found}
 use Rattle.xsd_num.specs.declared.num.Num.{Num}
 use Rattle.xsd_num.specs.declared.num.Num.TheVariants.{Whole, Decimal}
@@ -51,3 +51,7 @@ kept_decimal minus m t (Some (Decimal k s)) ends e = grind (arith, common_steps,
 -- a decimal at its least scale is kept
 pub least_is_kept : (minus : Bool) (n s : ℕ) (t : ℕ × ℕ) (r : Option Num) → t ≡ trimmed n s → found r ≡ held_decimal minus (t.0, t.1) → IfSome r (λ n. IsTrue (is_kept (number_of n)))
 least_is_kept minus n s t r e f = kept_decimal minus t.0 t.1 r (trimmed_ends n s t.0 t.1 (sym e)) f
+
+-- so is what is one
+pub least_kept : (minus : Bool) (n s : ℕ) (r : Option Num) → found r ≡ least_decimal minus n s → IfSome r (λ n. IsTrue (is_kept (number_of n)))
+least_kept minus n s r e = least_is_kept minus n s (trimmed n s) r refl e

@@ -1,6 +1,6 @@
 -- What the crate's own types mean, as the numbers of XML Schema (XSD 1.1 part 2, sections 3.3.3 and 3.4.13).
-use Rattle.std.specs.Prelude.{ℕ, ◌+◌, ◌*◌, ◌/◌, ◌^◌, ℤ, Bool, cond, Option, Some, None, Result, Ok, Err}
-use Rattle.term_core.specs.Numbers.{Number, Fault, is_held, trimmed, signed}
+use Rattle.std.specs.Prelude.{ℕ, ◌^◌, ℤ, cond, nat_lt, Option, Some, None, Result, Ok, Err}
+use Rattle.term_core.specs.Numbers.{Number, Fault, is_held}
 use Rattle.term_core.specs.Numbers as numbers
 use Rattle.xsd_num.specs.declared.num.Num.{Num}
 use Rattle.xsd_num.specs.declared.num.Num.TheVariants.{Whole, Decimal}
@@ -30,3 +30,7 @@ found (Some n) = Some (number_of n)
 -- an integer, if it has 128 bits
 abbrev pub held : ℤ → Option ℤ
 held m = cond (is_held m) (Some m) None
+
+-- a natural number, if it is below 2^128
+abbrev pub below : ℕ → Option ℕ
+below n = cond (nat_lt n (2 ^ 128)) (Some n) None

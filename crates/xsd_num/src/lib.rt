@@ -4,7 +4,7 @@
 mod arithmetic;
 mod exact;
 //mod law;
-//mod lexical;
+mod lexical;
 mod num;
 mod order;
 //#[cfg(test)]
@@ -12,7 +12,7 @@ mod order;
 //mod write;
 
 pub use arithmetic::{abs, add, mul, neg, sub};
-//pub use lexical::read;
+pub use lexical::read;
 pub use num::{Num, NumFault, is_kept};
 pub use order::cmp;
 //pub use write::write;
