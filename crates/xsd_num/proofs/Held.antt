@@ -1,15 +1,19 @@
 -- Numbers of 128 bits.
 use Rattle.std.proofs.Common.{◌≡◌, ◌≢◌, ℕ, zero, suc, ◌+◌, ◌-◌, ◌*◌, ◌/◌, ◌%◌, ◌^◌, ◌<◌, ◌≤◌, refl, sym, ap, ◌∙◌, arith, Bool, true, false, cond, ◌==◌, ◌⊎◌, ℤ, pos, negsuc}
 use Rattle.std.proofs.lemmas.Grind.{common_steps}
-use Rattle.std.proofs.lemmas.Int.{to_z-of_z}
-use Rattle.std.specs.Prelude.{unsigned_abs, Option, Some, None, ◌&&◌, FitsSigned}
+use Rattle.std.proofs.lemmas.Int.{to_z-of_z, unsigned_abs-mul}
+use Rattle.std.proofs.lemmas.Nat.{mul-lt}
+use Rattle.std.specs.Prelude.{unsigned_abs, Option, Some, None, ◌&&◌, nat_lt, FitsSigned, IfSome, IsTrue}
 use Rattle.std.specs.Int.{is_negative}
 use mir.Syntax.{w128}
 use mir.Val.{to_z, of_z}
 use Rattle.term_core.specs.Numbers as numbers
-use Rattle.term_core.specs.Numbers.{Number, is_held, at_scale, are_held_at, are_whole, made, least_decimal}
+use Rattle.term_core.specs.Numbers.{Number, is_held, at_scale, are_held_at, are_whole, made, least_decimal, cut_quotient, do_differ, numerator, scale, is_kept}
 use Rattle.xsd_num.specs.Values.{number_of, found, held}
 use Rattle.xsd_num.specs.declared.num.Num.{Num}
+use Rattle.xsd_num.specs.declared.num.Num.TheVariants.{Whole, Decimal}
+use Rattle.xsd_num.proofs.Trims.{least_kept}
+use Rattle.xsd_num.proofs.Places.{power_positive}
 
 -- what is held has 128 bits, and is itself
 pub held_some : (z x : ℤ) → held z ≡ Some x → (is_held z ≡ true) × (z ≡ x)
@@ -46,3 +50,30 @@ combined_is op t a b whole x y m r p q o w e =
         → found r ≡ cond whole (Some (numbers.Whole m)) (least_decimal (is_negative m) (unsigned_abs m) t)
         → found r ≡ cond (is_held za && is_held zb) (made both (op za zb) t) None
     made_of op t za zb whole both x y m r p q o w e = grind (arith, common_steps)
+
+-- a quotient of two numerators at one scale
+pub quotient_combined : (t : ℕ) (a b : Number) (x y : ℤ) (r : Option Num)
+    → held (at_scale t a) ≡ Some x → held (at_scale t b) ≡ Some y
+    → found r ≡ cut_quotient (to_z w128 (of_z w128 x)) (to_z w128 (of_z w128 y))
+    → found r ≡ cut_quotient (at_scale t a) (at_scale t b)
+quotient_combined t a b x y r p q e =
+    e ∙ ap (λ z. cut_quotient z (to_z w128 (of_z w128 y))) (bits_back (at_scale t a) x p ∙ sym (held_some (at_scale t a) x p).1)
+    ∙ ap (λ z. cut_quotient (at_scale t a) z) (bits_back (at_scale t b) y q ∙ sym (held_some (at_scale t b) y q).1)
+
+-- a divisor that is not zero stays so at a greater scale
+pub divisor_positive : (t : ℕ) (b : Number) (y : ℤ) → 0 < unsigned_abs (numerator b) → held (at_scale t b) ≡ Some y → 0 < unsigned_abs (to_z w128 (of_z w128 y))
+divisor_positive t b y h q =
+    let back : to_z w128 (of_z w128 y) ≡ at_scale t b = bits_back (at_scale t b) y q ∙ sym (held_some (at_scale t b) y q).1 in
+    let size : unsigned_abs (at_scale t b) ≡ unsigned_abs (numerator b) * 10 ^ (t - scale b) = unsigned_abs-mul (numerator b) (pos (10 ^ (t - scale b))) in
+    rw (back, size) (mul-lt 0 0 (unsigned_abs (numerator b)) (10 ^ (t - scale b)) h (power_positive (t - scale b)))
+
+-- a quotient is kept
+kept_if : (b minus : Bool) (n s : ℕ) (r : Option Num) → found r ≡ cond b (least_decimal minus n s) None → IfSome r (λ n. IsTrue (is_kept (number_of n)))
+kept_if true minus n s r e = least_kept minus n s r e
+kept_if false minus n s None e = tt
+kept_if false minus n s (Some (Whole m)) e = cc
+kept_if false minus n s (Some (Decimal m t)) e = cc
+
+pub quotient_kept : (m n : ℤ) (r : Option Num) → found r ≡ cut_quotient m n → IfSome r (λ n. IsTrue (is_kept (number_of n)))
+quotient_kept m n r e =
+    kept_if (is_held m && (is_held n && nat_lt (unsigned_abs n) (10 ^ 37))) (do_differ m n) (unsigned_abs m * 10 ^ 18 / unsigned_abs n) 18 r e

@@ -3,3 +3,4 @@ pub mod Held
 pub mod Places
 pub mod Digits
 pub mod Texts
+pub mod Quotients

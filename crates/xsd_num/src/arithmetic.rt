@@ -1,12 +1,13 @@
 //! Addition, subtraction, multiplication, division and signs (SPARQL 1.1, section 17.3).
 
-ghost use Rattle.std.specs.Prelude.{◌≡◌, ◌+◌, ◌≤◌, ◌*ℤ◌, max, IsTrue, IfOk, IfSome};
-ghost use Rattle.term_core.specs.Numbers.{numerator, scale, are_whole, at_scale, is_kept, sum_at, difference_at, made};
+ghost use Rattle.std.specs.Prelude.{◌≡◌, ◌+◌, ◌≤◌, ◌<◌, unsigned_abs, ◌*ℤ◌, max, IsTrue, IfOk, IfSome};
+ghost use Rattle.term_core.specs.Numbers.{numerator, scale, are_whole, at_scale, is_kept, sum_at, difference_at, made, cut_quotient};
 ghost use Rattle.term_core.specs.Numbers as numbers;
 ghost use Rattle.xsd_num.specs.Values.{number_of, answer_of, found, held};
 
+use crate::division::cut_quotient;
 use crate::exact::{difference, made, product, scaled, sum};
-use crate::num::{are_whole, numerator, scale};
+use crate::num::{are_whole, magnitude, numerator, scale};
 use crate::{Num, NumFault};
 
 /// The numerator at a scale that is no less than the number's own.
@@ -97,6 +98,34 @@ pub fn mul(a: Num, b: Num) -> Result<Num, NumFault>
     ensures kept { IfOk result (λ n. IsTrue (is_kept (number_of n))) }
 {
     product_of(a, b).ok_or(NumFault::Range)
+}
+
+fn quotient_at(a: Num, b: Num, to: u8) -> Option<Num>
+    requires a_scale { scale (number_of a) ≤ to }
+    requires b_scale { scale (number_of b) ≤ to }
+    requires limit { to ≤ 18 }
+    requires divisor { 0 < unsigned_abs (numerator (number_of b)) }
+    ensures exact { found result ≡ cut_quotient (at_scale to (number_of a)) (at_scale to (number_of b)) }
+    ensures kept { IfSome result (λ n. IsTrue (is_kept (number_of n))) }
+{
+    let x = at_scale(a, to)?;
+    let y = at_scale(b, to)?;
+    cut_quotient(x, y)
+}
+
+/// `a / b`, a decimal cut toward zero at 18 places. `Zero` comes exactly where `b` is zero, and
+/// else `Range` exactly where a numerator at the greater scale is past 128 bits, the one of `b` is
+/// 10^37 or more, or the numerator of the quotient at its least scale is past 128 bits.
+pub fn div(a: Num, b: Num) -> Result<Num, NumFault>
+    requires a_kept { IsTrue (is_kept (number_of a)) }
+    requires b_kept { IsTrue (is_kept (number_of b)) }
+    ensures exact { answer_of result ≡ numbers.quotient (number_of a) (number_of b) }
+    ensures kept { IfOk result (λ n. IsTrue (is_kept (number_of n))) }
+{
+    if magnitude(b) == 0 {
+        return Err(NumFault::Zero);
+    }
+    quotient_at(a, b, common_scale(a, b)).ok_or(NumFault::Range)
 }
 
 /// The number with another numerator, which is a multiple of 10 exactly where its own is.

@@ -2,6 +2,7 @@
 #![tactic(auto)]
 
 mod arithmetic;
+mod division;
 mod exact;
 //mod law;
 mod lexical;
@@ -11,7 +12,7 @@ mod order;
 //mod tests;
 //mod write;
 
-pub use arithmetic::{abs, add, mul, neg, sub};
+pub use arithmetic::{abs, add, div, mul, neg, sub};
 pub use lexical::read;
 pub use num::{Num, NumFault, is_kept};
 pub use order::cmp;
