@@ -4,3 +4,4 @@ pub mod Places
 pub mod Digits
 pub mod Texts
 pub mod Quotients
+pub mod Written

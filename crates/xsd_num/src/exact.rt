@@ -8,6 +8,17 @@ ghost use Rattle.xsd_num.specs.Values.{number_of, held, found};
 
 use crate::Num;
 
+/// 10 to a power of at most 18.
+#[tactic(auto, using(crate::proofs::Places::power_bound, crate::proofs::Places::power_positive))]
+pub fn power(places: u8) -> u128
+    requires { places ≤ 18 }
+    ensures exact { result ≡ 10 ^ places }
+    ensures bound { result ≤ 10 ^ 18 }
+    ensures positive { 0 < result }
+{
+    10u128.pow(places as u32)
+}
+
 /// `m * 10^by`.
 pub fn scaled(m: i128, by: u8) -> Option<i128>
     requires { by ≤ 18 }

@@ -10,10 +10,10 @@ mod num;
 mod order;
 //#[cfg(test)]
 //mod tests;
-//mod write;
+mod writing;
 
 pub use arithmetic::{abs, add, div, mul, neg, sub};
 pub use lexical::read;
 pub use num::{Num, NumFault, is_kept};
 pub use order::cmp;
-//pub use write::write;
+pub use writing::write;

@@ -6,19 +6,9 @@ ghost use Rattle.term_core.specs.Numbers.{numerator, scale, is_kept, compared};
 ghost use Rattle.xsd_num.specs.Values.{number_of};
 
 use crate::Num;
+use crate::exact::power;
 use crate::num::{is_minus, magnitude, scale};
 use std::cmp::Ordering;
-
-/// 10 to a power of at most 18.
-#[tactic(auto, using(crate::proofs::Places::power_bound, crate::proofs::Places::power_positive))]
-fn power(places: u8) -> u128
-    requires { places ≤ 18 }
-    ensures exact { result ≡ 10 ^ places }
-    ensures bound { result ≤ 10 ^ 18 }
-    ensures positive { 0 < result }
-{
-    10u128.pow(places as u32)
-}
 
 /// What a magnitude has in front of its point, and behind it in parts of 10^-18.
 fn parts(magnitude: u128, scale: u8) -> (u128, u128)
