@@ -2,14 +2,16 @@
 #![tactic(auto)]
 
 mod arithmetic;
+#[cfg(test)]
+mod cases;
 mod division;
 mod exact;
 //mod law;
 mod lexical;
 mod num;
 mod order;
-//#[cfg(test)]
-//mod tests;
+#[cfg(test)]
+mod tests;
 mod writing;
 
 pub use arithmetic::{abs, add, div, mul, neg, sub};
