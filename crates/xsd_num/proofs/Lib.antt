@@ -5,3 +5,5 @@ pub mod Digits
 pub mod Texts
 pub mod Quotients
 pub mod Written
+pub mod Scales
+pub mod Readback

@@ -1,5 +1,5 @@
 -- Numbers at 18 places, and their order.
-use Rattle.std.proofs.Common.{◌≡◌, ◌≢◌, ℕ, zero, suc, ◌+◌, ◌-◌, ◌*◌, ◌/◌, ◌%◌, ◌^◌, ◌<◌, ◌≤◌, refl, sym, ap, ◌∙◌, arith, Bool, true, false, cond, ℤ, pos, negsuc, ◌*ℤ◌, neg_ℤ, Less, Equal, Greater, nat_cmp}
+use Rattle.std.proofs.Common.{◌≡◌, ℕ, zero, suc, ◌+◌, ◌-◌, ◌*◌, ◌/◌, ◌%◌, ◌^◌, ◌<◌, ◌≤◌, refl, sym, ap, ◌∙◌, arith, true, false, ℤ, pos, negsuc, ◌*ℤ◌, neg_ℤ, Less, Greater, nat_cmp}
 use Rattle.std.proofs.lemmas.Grind.{common_steps}
 use Rattle.std.proofs.Math.Nat.{pow-le-pow_right, mul-lt-mul_of_pos_right}
 use Rattle.std.proofs.lemmas.Nat.{pow-add, div-add-mod', mul-lt, mod_below}
@@ -33,11 +33,11 @@ by_parts m n q r f g hf hg e d = grind (arith, common_steps)
 below_product : (r u v : ℕ) → r < u → 0 < v → r * v < u * v
 below_product r u v h p = mul-lt-mul_of_pos_right h p
 
-less_from_minus : (k l : ℕ) → 0 < k → int_cmp (neg_ℤ (pos k)) (pos l) ≡ Less
+pub less_from_minus : (k l : ℕ) → 0 < k → int_cmp (neg_ℤ (pos k)) (pos l) ≡ Less
 less_from_minus zero l h = absurd (omega arith)
 less_from_minus (suc k) l h = refl
 
-greater_than_minus : (k l : ℕ) → 0 < k → int_cmp (pos l) (neg_ℤ (pos k)) ≡ Greater
+pub greater_than_minus : (k l : ℕ) → 0 < k → int_cmp (pos l) (neg_ℤ (pos k)) ≡ Greater
 greater_than_minus zero l h = absurd (omega arith)
 greater_than_minus (suc k) l h = refl
 
@@ -48,10 +48,10 @@ fraction_below n s h =
     let v : 0 < 10 ^ (18 - s) = power_positive (18 - s) in
     rw (← powers_join s h) (below_product (n % 10 ^ s) (10 ^ s) (10 ^ (18 - s)) r v)
 
-turned : (k l : ℕ) → nat_cmp (suc l) (suc k) ≡ int_cmp (negsuc k) (negsuc l)
+pub turned : (k l : ℕ) → nat_cmp (suc l) (suc k) ≡ int_cmp (negsuc k) (negsuc l)
 turned k l = grind (arith, common_steps)
 
-minus_turns : (k l : ℕ) → 0 < k → 0 < l → nat_cmp l k ≡ int_cmp (neg_ℤ (pos k)) (neg_ℤ (pos l))
+pub minus_turns : (k l : ℕ) → 0 < k → 0 < l → nat_cmp l k ≡ int_cmp (neg_ℤ (pos k)) (neg_ℤ (pos l))
 minus_turns zero l h g = absurd (omega arith)
 minus_turns (suc k) zero h g = absurd (omega arith)
 minus_turns (suc k) (suc l) h g = turned k l

@@ -1,8 +1,8 @@
 -- Quotients digit by digit.
-use Rattle.std.proofs.Common.{◌≡◌, ◌≢◌, ℕ, zero, suc, ◌+◌, ◌-◌, ◌*◌, ◌/◌, ◌%◌, ◌^◌, ◌<◌, ◌≤◌, refl, sym, ap, ◌∙◌, arith, Bool, true, false, cond, ◌==◌}
+use Rattle.std.proofs.Common.{◌≡◌, ℕ, zero, suc, ◌+◌, ◌*◌, ◌/◌, ◌%◌, ◌^◌, ◌<◌, refl, sym, ap, ◌∙◌, arith, Bool, true, false, cond, ◌==◌}
 use Rattle.std.proofs.lemmas.Grind.{common_steps}
-use Rattle.std.proofs.Math.Nat.{pow-suc, mul-lt-mul_of_pos_right, add-mul, mul_comm, mul_assoc, mul_right_comm, mul-add-div_right}
-use Rattle.std.proofs.lemmas.Nat.{div-add-mod', div-mul-add, div_below, mod_below, pow-add}
+use Rattle.std.proofs.Math.Nat.{pow-suc, add-mul, mul_assoc, mul_right_comm, mul-add-div_right}
+use Rattle.std.proofs.lemmas.Nat.{div-add-mod', div_below, pow-add}
 use Rattle.std.specs.Prelude.{Some, None}
 use Rattle.term_core.specs.Numbers.{trimmed, held_decimal, least_decimal}
 use Rattle.xsd_num.specs.Values.{below}

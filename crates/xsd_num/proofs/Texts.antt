@@ -1,7 +1,7 @@
 -- What a text reads as, from its parts.
 use Rattle.std.proofs.Common.{◌≡◌, ℕ, Bool, true, cond, List, ◌++◌, length}
 use Rattle.std.specs.Prelude.{Option, None, ◌&&◌, not}
-use Rattle.term_core.specs.Numbers.{Number, are_digits, value_after, is_minus, behind_sign, before_point, behind_point, is_empty, least_decimal, read_decimal}
+use Rattle.term_core.specs.Numbers.{are_digits, value_after, is_minus, behind_sign, before_point, behind_point, is_empty, least_decimal, read_decimal}
 use Rattle.xsd_num.specs.Values.{found}
 use Rattle.xsd_num.specs.declared.num.Num.{Num}
 use Rattle.xsd_num.proofs.Digits.{value_join, both_true, digits_apart}

@@ -1,9 +1,9 @@
 -- How numbers lose the zeros at their ends.
-use Rattle.std.proofs.Common.{◌≡◌, ◌≢◌, ℕ, zero, suc, ◌+◌, ◌-◌, ◌*◌, ◌/◌, ◌%◌, ◌^◌, ◌<◌, ◌≤◌, refl, ap, arith, Bool, true, false, cond, ◌==◌, ◌⊎◌}
+use Rattle.std.proofs.Common.{◌≡◌, ◌≢◌, ℕ, zero, suc, ◌-◌, ◌/◌, ◌%◌, ◌<◌, refl, arith, Bool, true, false, ◌⊎◌}
 use Rattle.std.proofs.lemmas.Grind.{common_steps}
 use Rattle.std.proofs.Common.{sym}
-use Rattle.std.specs.Prelude.{unsigned_abs, IsTrue, IfSome, Option, Some, None, not, ◌&&◌, ◌||◌, nat_le}
-use Rattle.term_core.specs.Numbers.{trimmed, signed, is_kept, held_decimal, least_decimal, is_held}
+use Rattle.std.specs.Prelude.{unsigned_abs, IsTrue, IfSome, Option, Some, None}
+use Rattle.term_core.specs.Numbers.{trimmed, signed, is_kept, held_decimal, least_decimal}
 use Rattle.xsd_num.specs.Values.{number_of, found}
 use Rattle.xsd_num.specs.declared.num.Num.{Num}
 use Rattle.xsd_num.specs.declared.num.Num.TheVariants.{Whole, Decimal}

@@ -60,7 +60,7 @@ fn product_of(a: Num, b: Num) -> Option<Num>
     requires b_kept { IsTrue (is_kept (number_of b)) }
     ensures exact { found result
         ≡ made (are_whole (number_of a) (number_of b)) (numerator (number_of a) *ℤ numerator (number_of b))
-          (scale (number_of a) + scale (number_of b)) }
+        (scale (number_of a) + scale (number_of b)) }
     ensures kept { IfSome result (λ n. IsTrue (is_kept (number_of n))) }
 {
     let m = product(numerator(a), numerator(b))?;

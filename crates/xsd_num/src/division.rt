@@ -28,7 +28,9 @@ fn joined(whole: u128, fraction: u128, scale: u8) -> Option<u128>
     requires { scale ≤ 18 }
     ensures { result ≡ below (whole * 10 ^ scale + fraction) }
 {
-    whole.checked_mul(10u128.pow(scale as u32))?.checked_add(fraction)
+    whole
+        .checked_mul(10u128.pow(scale as u32))?
+        .checked_add(fraction)
 }
 
 /// The quotient of two magnitudes with its sign, cut at 18 places and at its least scale.

@@ -60,11 +60,7 @@ pub fn signed(minus: bool, magnitude: u128) -> Option<i128>
 }
 
 /// A magnitude and its scale without the zeros at the magnitude's end, as far as there are places.
-#[tactic(auto, using(
-    crate::proofs::Trims::trims_zero,
-    crate::proofs::Trims::trims_no_place,
-    crate::proofs::Trims::trims_no_digit
-))]
+#[tactic(auto, using(crate::proofs::Trims::trims_zero, crate::proofs::Trims::trims_no_place, crate::proofs::Trims::trims_no_digit))]
 pub fn trimmed(magnitude: u128, scale: u8) -> (u128, u8)
     ensures exact { result ≡ trimmed magnitude scale }
     ensures less { result.0 ≤ magnitude }

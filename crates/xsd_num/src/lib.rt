@@ -6,7 +6,7 @@ mod arithmetic;
 mod cases;
 mod division;
 mod exact;
-//mod law;
+pub mod law;
 mod lexical;
 mod num;
 mod order;

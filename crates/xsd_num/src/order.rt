@@ -27,7 +27,7 @@ fn cmp_magnitudes(a: Num, b: Num) -> Ordering
     requires b_kept { IsTrue (is_kept (number_of b)) }
     ensures { result
         ≡ nat_cmp (unsigned_abs (numerator (number_of a)) * 10 ^ (18 - scale (number_of a)))
-          (unsigned_abs (numerator (number_of b)) * 10 ^ (18 - scale (number_of b))) }
+        (unsigned_abs (numerator (number_of b)) * 10 ^ (18 - scale (number_of b))) }
 {
     let (a_whole, a_fraction) = parts(magnitude(a), scale(a));
     let (b_whole, b_fraction) = parts(magnitude(b), scale(b));

@@ -68,7 +68,9 @@ fn written(alloc: Global, a: Num) -> Result<String, Memory> {
     }
     match write(alloc, a)? {
         Term::Literal {
-            lexical, datatype, ..
+            lexical,
+            datatype,
+            ..
         } => {
             let lexical = lexical.as_str();
             let datatype = datatype.as_str();
@@ -79,7 +81,14 @@ fn written(alloc: Global, a: Num) -> Result<String, Memory> {
 }
 
 /// Runs one case.
-fn run(rt: &impl Abort, alloc: Global, name: &str, first: &str, second: &str, wanted: &str) -> Result<(), Fail> {
+fn run(
+    rt: &impl Abort,
+    alloc: Global,
+    name: &str,
+    first: &str,
+    second: &str,
+    wanted: &str,
+) -> Result<(), Fail> {
     match name {
         "read" => {
             let datatype = iri(alloc, first)?;
@@ -100,7 +109,11 @@ fn run(rt: &impl Abort, alloc: Global, name: &str, first: &str, second: &str, wa
                 assert_eq!(rt; compared(a, b), wanted, "{first} {second}");
             }
             (Some(a), Some(b)) => {
-                assert_eq!(rt; computed(name, a, b), answer(wanted), "{name} {first} {second}");
+                assert_eq!(rt;
+                    computed(name, a, b),
+                    answer(wanted),
+                    "{name} {first} {second}"
+                );
             }
             (Some(a), None) => {
                 assert_eq!(rt; computed(name, a, a), answer(wanted), "{name} {first}");

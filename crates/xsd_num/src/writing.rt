@@ -94,11 +94,19 @@ pub fn write(alloc: Global, a: Num) -> Result<Term, Memory>
     match a {
         Num::Whole(m) => {
             let text = write_whole(alloc, m)?;
-            literal(alloc, text.as_slice(), b"http://www.w3.org/2001/XMLSchema#integer")
+            literal(
+                alloc,
+                text.as_slice(),
+                b"http://www.w3.org/2001/XMLSchema#integer",
+            )
         }
         Num::Decimal { s, .. } => {
             let text = write_decimal(alloc, is_minus(a), magnitude(a), s)?;
-            literal(alloc, text.as_slice(), b"http://www.w3.org/2001/XMLSchema#decimal")
+            literal(
+                alloc,
+                text.as_slice(),
+                b"http://www.w3.org/2001/XMLSchema#decimal",
+            )
         }
     }
 }

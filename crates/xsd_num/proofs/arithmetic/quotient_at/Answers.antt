@@ -13,5 +13,5 @@ returns-clause-exact c =
     (sym c.at_scale.ensures ∙ c.in_ok-x.was) (sym c.at_scale-2.ensures ∙ c.in_ok-y.was) c.cut_quotient.ensures
 
 pub returns-clause-kept : goal.returns-clause-kept
-returns-clause-kept c = 
+returns-clause-kept c =
     quotient_kept (at_scale c.args.to (number_of c.args.a)) (at_scale c.args.to (number_of c.args.b)) c.cut_quotient.result (returns-clause-exact c)

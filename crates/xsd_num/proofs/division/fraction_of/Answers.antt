@@ -7,5 +7,5 @@ pub loop-place-preserved : goal.loop-place-preserved
 loop-place-preserved c = record {
   left = mod_below (c.loop-place.left * 10) c.args.divisor (omega arith);
   value = one_digit_more c.loop-place.digits c.loop-place.left c.args.divisor c.args.rest c.loop-place.place c.loop-place.invariant.value;
-  bound = one_digit_below c.loop-place.digits c.loop-place.left c.args.divisor c.loop-place.place c.loop-place.invariant.left c.loop-place.invariant.bound
+  bound = one_digit_below c.loop-place.digits c.loop-place.left c.args.divisor c.loop-place.place c.loop-place.invariant.left c.loop-place.invariant.bound;
 }

@@ -6,5 +6,5 @@ abbrev pub invariant-loop-place : goal.invariant-loop-place
 invariant-loop-place l = record {
   left : l.left < l.divisor;
   value : l.digits * l.divisor + l.left ≡ l.rest * 10 ^ l.place;
-  bound : l.digits < 10 ^ l.place
+  bound : l.digits < 10 ^ l.place;
 }

@@ -7,7 +7,7 @@ abbrev pub invariant-loop-places : goal.invariant-loop-places
 invariant-loop-places l = record {
   same : trimmed l.rest l.places ≡ trimmed l.magnitude l.scale;
   less : l.rest ≤ l.magnitude;
-  fewer : l.places ≤ l.scale
+  fewer : l.places ≤ l.scale;
 }
 
 abbrev pub decreases-loop-places : goal.decreases-loop-places

@@ -6,5 +6,5 @@ use Rattle.xsd_num.proofs.lexical.split_point.Given as goal
 abbrev pub invariant-loop-i : goal.invariant-loop-i
 invariant-loop-i l = record {
   before : take l.i l.body ++ before_point (drop l.i l.body) ≡ before_point l.body;
-  behind : behind_point (drop l.i l.body) ≡ behind_point l.body
+  behind : behind_point (drop l.i l.body) ≡ behind_point l.body;
 }

@@ -7,5 +7,5 @@ abbrev pub invariant-loop-digit : goal.invariant-loop-digit
 invariant-loop-digit l = record {
   fits : l.n < 2 ^ 128;
   digits : are_digits (drop l.digit-index l.digits) ≡ true;
-  value : value_after l.n (drop l.digit-index l.digits) ≡ value_after l.before l.digits
+  value : value_after l.n (drop l.digit-index l.digits) ≡ value_after l.before l.digits;
 }

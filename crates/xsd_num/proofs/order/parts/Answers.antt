@@ -1,4 +1,4 @@
-use Rattle.std.proofs.Common.{◌≡◌, ◌<◌, ◌+◌, ◌-◌, ◌*◌, ◌/◌, ◌%◌, ◌^◌, arith}
+use Rattle.std.proofs.Common.{arith}
 use Rattle.xsd_num.proofs.Places.{parts_value, fraction_below}
 use Rattle.xsd_num.proofs.order.parts.Goals as goal
 
