@@ -1,7 +1,8 @@
 -- Exact numbers: the integers and decimals of XML Schema (XSD 1.1 part 2, sections 3.3.3 and 3.4.13 to 3.4.25) and
 -- the arithmetic on them (SPARQL 1.1, section 17.3). A number is exact, or an operation names why there is none.
-use Rattle.std.specs.Prelude.{ℕ, zero, suc, ◌+◌, ◌-◌, ◌*◌, ◌/◌, ◌%◌, ◌^◌, max, ℤ, pos, negsuc, neg_ℤ, ◌+ℤ◌, ◌-ℤ◌, ◌*ℤ◌, unsigned_abs, int_le}
-use Rattle.std.specs.Prelude.{Bool, true, false, cond, not, ◌&&◌, ◌||◌, ◌==◌, nat_lt, nat_le, if◌then◌else◌, List, [], ◌∷◌, ◌++◌, length, codes}
+use Rattle.std.specs.Prelude.{◌≡◌, ◌⊎◌, ℕ, zero, suc, ◌+◌, ◌-◌, ◌*◌, ◌/◌, ◌%◌, ◌^◌, max, ℤ, pos, negsuc, neg_ℤ}
+use Rattle.std.specs.Prelude.{◌+ℤ◌, ◌-ℤ◌, ◌*ℤ◌, unsigned_abs, int_le, Bool, true, false, cond, not, ◌&&◌, ◌||◌, ◌==◌}
+use Rattle.std.specs.Prelude.{nat_lt, nat_le, if◌then◌else◌, List, [], ◌∷◌, ◌++◌, length, codes}
 use Rattle.std.specs.Prelude.{Option, Some, None, Result, Ok, Err, ok_or}
 use Rattle.std.specs.Int.{is_negative}
 use Rattle.std.specs.Ordering.{int_cmp}
@@ -19,12 +20,12 @@ pub data Fault : Type 0 where
   Range : Fault
   Zero : Fault
 
--- m, of a number m * 10^-s
+-- m, of a number m * 10^-s (XSD 3.3.3.1)
 abbrev pub numerator : Number → ℤ
 numerator (Whole m) = m
 numerator (Decimal m s) = m
 
--- s, of a number m * 10^-s
+-- s, of a number m * 10^-s (XSD 3.3.3.1)
 abbrev pub scale : Number → ℕ
 scale (Whole m) = 0
 scale (Decimal m s) = s
@@ -34,7 +35,7 @@ abbrev pub with_numerator : Number → ℤ → Number
 with_numerator (Whole m) n = Whole n
 with_numerator (Decimal m s) n = Decimal n s
 
--- both are integers
+-- both are integers (SPARQL 1.1, 17.3: two xsd:integer give an xsd:integer, but for a quotient)
 abbrev pub are_whole : Number → Number → Bool
 are_whole (Whole m) (Whole n) = true
 are_whole (Whole m) (Decimal n t) = false
@@ -61,7 +62,8 @@ trimmed n (suc s) = cond (n % 10 == 0) (trimmed (n / 10) s) (n, suc s)
 
 -- the decimal of this sign, magnitude and scale, if it has 128 bits and at most 18 places
 abbrev pub held_decimal : Bool → ℕ × ℕ → Option Number
-held_decimal minus t = cond (is_held (signed minus t.0) && nat_le t.1 18) (Some (Decimal (signed minus t.0) t.1)) None
+held_decimal minus t =
+    cond (is_held (signed minus t.0) && nat_le t.1 18) (Some (Decimal (signed minus t.0) t.1)) None
 
 -- the same at its least scale
 abbrev pub least_decimal : Bool → ℕ → ℕ → Option Number
@@ -75,7 +77,8 @@ at_scale t a = numerator a *ℤ pos (10 ^ (t - scale a))
 
 -- m * 10^-s: an integer where both terms are, and else a decimal; none where m is past 128 bits
 abbrev pub made : Bool → ℤ → ℕ → Option Number
-made whole m s = cond (is_held m) (cond whole (Some (Whole m)) (least_decimal (is_negative m) (unsigned_abs m) s)) None
+made whole m s =
+    cond (is_held m) (cond whole (Some (Whole m)) (least_decimal (is_negative m) (unsigned_abs m) s)) None
 
 -- both numerators at the greater scale
 abbrev pub are_held_at : ℕ → Number → Number → Bool
@@ -89,15 +92,15 @@ sum_at t a b = cond (are_held_at t a b) (made (are_whole a b) (at_scale t a +ℤ
 abbrev pub difference_at : ℕ → Number → Number → Option Number
 difference_at t a b = cond (are_held_at t a b) (made (are_whole a b) (at_scale t a -ℤ at_scale t b) t) None
 
--- a + b
+-- a + b (op:numeric-add; SPARQL 1.1, 17.3)
 abbrev pub sum : Number → Number → Result Number Fault
 sum a b = ok_or (sum_at (max (scale a) (scale b)) a b) Range
 
--- a - b
+-- a - b (op:numeric-subtract; SPARQL 1.1, 17.3)
 abbrev pub difference : Number → Number → Result Number Fault
 difference a b = ok_or (difference_at (max (scale a) (scale b)) a b) Range
 
--- a * b
+-- a * b (op:numeric-multiply; SPARQL 1.1, 17.3)
 abbrev pub product : Number → Number → Result Number Fault
 product a b = ok_or (made (are_whole a b) (numerator a *ℤ numerator b) (scale a + scale b)) Range
 
@@ -111,7 +114,7 @@ cut_quotient m n =
     cond (is_held m && (is_held n && nat_lt (unsigned_abs n) (10 ^ 37)))
     (least_decimal (do_differ m n) (unsigned_abs m * 10 ^ 18 / unsigned_abs n) 18) None
 
--- a / b: the quotient of both numerators at the greater scale
+-- a / b (op:numeric-divide; SPARQL 1.1, 17.3): the quotient of both numerators at the greater scale
 abbrev pub quotient : Number → Number → Result Number Fault
 quotient a b =
     cond (unsigned_abs (numerator b) == 0) (Err Zero)
@@ -121,7 +124,7 @@ quotient a b =
 abbrev pub renumbered : Number → ℤ → Result Number Fault
 renumbered a m = cond (is_held m) (Ok (with_numerator a m)) (Err Range)
 
--- -a
+-- -a (op:numeric-unary-minus; SPARQL 1.1, 17.3)
 abbrev pub negation : Number → Result Number Fault
 negation a = renumbered a (neg_ℤ (numerator a))
 
@@ -129,17 +132,17 @@ negation a = renumbered a (neg_ℤ (numerator a))
 abbrev pub absolute : Number → Result Number Fault
 absolute a = renumbered a (pos (unsigned_abs (numerator a)))
 
--- the order of the values: both numerators at 18 places, which no kept number passes
+-- the order of the values (op:numeric-less-than; SPARQL 1.1, 17.3): both numerators at 18 places, the most there are
 abbrev pub compared : Number → Number → Ordering
 compared a b = int_cmp (at_scale 18 a) (at_scale 18 b)
 
 -- ---- lexical forms (XSD 3.3.3.1 and 3.4.13.1)
 
--- 0 to 9
+-- [0-9]
 abbrev pub is_digit : ℕ → Bool
 is_digit c = nat_le 48 c && nat_le c 57
 
--- nothing but digits
+-- [0-9]*
 abbrev pub are_digits : List ℕ → Bool
 are_digits [] = true
 are_digits (c ∷ cs) = is_digit c && are_digits cs
@@ -196,17 +199,54 @@ is_decimal text = are_digits (all_digits (behind_sign text)) && not (is_empty (a
 
 -- the decimal that such a text writes, at its least scale
 abbrev pub decimal_value : List ℕ → Option Number
-decimal_value text = least_decimal (is_minus text) (value (all_digits (behind_sign text))) (length (behind_point (behind_sign text)))
+decimal_value text =
+    least_decimal (is_minus text) (value (all_digits (behind_sign text))) (length (behind_point (behind_sign text)))
 
--- ---- datatypes
+-- ---- the grammar of lexical forms
 
--- xsd:decimal
+-- [+-]?
+abbrev pub IsSign : List ℕ → Type 0
+IsSign sign = (sign ≡ []) ⊎ ((sign ≡ 43 ∷ []) ⊎ (sign ≡ 45 ∷ []))
+
+-- [+-]?[0-9]+ (XSD 3.4.13.1)
+pub record IsInteger (text : List ℕ) : Type 0 where
+  pub sign : List ℕ
+  pub digits : List ℕ
+  pub is_sign : IsSign sign
+  pub are_digits : are_digits digits ≡ true
+  pub some : is_empty digits ≡ false
+  pub parts : text ≡ sign ++ digits
+
+-- a point, or nothing and then no digit behind it
+abbrev pub IsPointed : List ℕ → List ℕ → Type 0
+IsPointed point fraction = ((point ≡ []) × (fraction ≡ [])) ⊎ (point ≡ 46 ∷ [])
+
+-- [+-]?([0-9]+(\.[0-9]*)?|\.[0-9]+) (XSD 3.3.3.1): digits, a point or none, digits, and one digit at least
+pub record IsDecimal (text : List ℕ) : Type 0 where
+  pub sign : List ℕ
+  pub whole : List ℕ
+  pub point : List ℕ
+  pub fraction : List ℕ
+  pub is_sign : IsSign sign
+  pub whole_digits : are_digits whole ≡ true
+  pub fraction_digits : are_digits fraction ≡ true
+  pub is_pointed : IsPointed point fraction
+  pub some : is_empty (whole ++ fraction) ≡ false
+  pub parts : text ≡ sign ++ (whole ++ (point ++ fraction))
+
+-- ---- datatypes (XSD 1.1 part 2, section 3.3.3 and sections 3.4.13 to 3.4.25)
+
+-- xsd:decimal (XSD 3.3.3)
 abbrev pub xsd_decimal : List ℕ
 xsd_decimal = codes "http://www.w3.org/2001/XMLSchema#decimal"
 
--- xsd:integer
+-- xsd:integer (XSD 3.4.13)
 abbrev pub xsd_integer : List ℕ
 xsd_integer = codes "http://www.w3.org/2001/XMLSchema#integer"
+
+-- the datatype is the one of this IRI (RDF 1.1 Concepts, section 3.3: IRIs are equal character by character)
+abbrev pub is_type : List ℕ → List ℕ → Bool
+is_type iri datatype = bytes_eq datatype iri
 
 -- a least and a greatest value, where there is one
 abbrev pub Bounds : Type 0
@@ -219,19 +259,32 @@ between m n = Some (Some m, Some n)
 -- the range of xsd:integer and of each of the twelve types derived from it (XSD 3.4.13 to 3.4.25)
 unfoldable pub bounds_of : List ℕ → Option Bounds
 bounds_of datatype =
-    if bytes_eq datatype xsd_integer then Some (None, None)
-    else if bytes_eq datatype (codes "http://www.w3.org/2001/XMLSchema#long") then between (negsuc (2 ^ 63 - 1)) (pos (2 ^ 63 - 1))
-    else if bytes_eq datatype (codes "http://www.w3.org/2001/XMLSchema#int") then between (negsuc (2 ^ 31 - 1)) (pos (2 ^ 31 - 1))
-    else if bytes_eq datatype (codes "http://www.w3.org/2001/XMLSchema#short") then between (negsuc (2 ^ 15 - 1)) (pos (2 ^ 15 - 1))
-    else if bytes_eq datatype (codes "http://www.w3.org/2001/XMLSchema#byte") then between (negsuc (2 ^ 7 - 1)) (pos (2 ^ 7 - 1))
-    else if bytes_eq datatype (codes "http://www.w3.org/2001/XMLSchema#nonNegativeInteger") then Some (Some (pos 0), None)
-    else if bytes_eq datatype (codes "http://www.w3.org/2001/XMLSchema#positiveInteger") then Some (Some (pos 1), None)
-    else if bytes_eq datatype (codes "http://www.w3.org/2001/XMLSchema#nonPositiveInteger") then Some (None, Some (pos 0))
-    else if bytes_eq datatype (codes "http://www.w3.org/2001/XMLSchema#negativeInteger") then Some (None, Some (negsuc 0))
-    else if bytes_eq datatype (codes "http://www.w3.org/2001/XMLSchema#unsignedLong") then between (pos 0) (pos (2 ^ 64 - 1))
-    else if bytes_eq datatype (codes "http://www.w3.org/2001/XMLSchema#unsignedInt") then between (pos 0) (pos (2 ^ 32 - 1))
-    else if bytes_eq datatype (codes "http://www.w3.org/2001/XMLSchema#unsignedShort") then between (pos 0) (pos (2 ^ 16 - 1))
-    else if bytes_eq datatype (codes "http://www.w3.org/2001/XMLSchema#unsignedByte") then between (pos 0) (pos (2 ^ 8 - 1))
+    if is_type xsd_integer datatype then
+    Some (None, None)
+    else if is_type (codes "http://www.w3.org/2001/XMLSchema#long") datatype then
+    between (negsuc (2 ^ 63 - 1)) (pos (2 ^ 63 - 1))
+    else if is_type (codes "http://www.w3.org/2001/XMLSchema#int") datatype then
+    between (negsuc (2 ^ 31 - 1)) (pos (2 ^ 31 - 1))
+    else if is_type (codes "http://www.w3.org/2001/XMLSchema#short") datatype then
+    between (negsuc (2 ^ 15 - 1)) (pos (2 ^ 15 - 1))
+    else if is_type (codes "http://www.w3.org/2001/XMLSchema#byte") datatype then
+    between (negsuc (2 ^ 7 - 1)) (pos (2 ^ 7 - 1))
+    else if is_type (codes "http://www.w3.org/2001/XMLSchema#nonNegativeInteger") datatype then
+    Some (Some (pos 0), None)
+    else if is_type (codes "http://www.w3.org/2001/XMLSchema#positiveInteger") datatype then
+    Some (Some (pos 1), None)
+    else if is_type (codes "http://www.w3.org/2001/XMLSchema#nonPositiveInteger") datatype then
+    Some (None, Some (pos 0))
+    else if is_type (codes "http://www.w3.org/2001/XMLSchema#negativeInteger") datatype then
+    Some (None, Some (negsuc 0))
+    else if is_type (codes "http://www.w3.org/2001/XMLSchema#unsignedLong") datatype then
+    between (pos 0) (pos (2 ^ 64 - 1))
+    else if is_type (codes "http://www.w3.org/2001/XMLSchema#unsignedInt") datatype then
+    between (pos 0) (pos (2 ^ 32 - 1))
+    else if is_type (codes "http://www.w3.org/2001/XMLSchema#unsignedShort") datatype then
+    between (pos 0) (pos (2 ^ 16 - 1))
+    else if is_type (codes "http://www.w3.org/2001/XMLSchema#unsignedByte") datatype then
+    between (pos 0) (pos (2 ^ 8 - 1))
     else None
 
 -- no less than the least value
@@ -252,15 +305,16 @@ is_within bounds m = is_from bounds.0 m && is_up_to bounds.1 m
 abbrev pub read_integer : Option Bounds → List ℕ → Option Number
 read_integer None text = None
 read_integer (Some bounds) text =
-    cond (is_integer text && (is_within bounds (integer_value text) && is_held (integer_value text))) (Some (Whole (integer_value text))) None
+    cond (is_integer text && (is_within bounds (integer_value text) && is_held (integer_value text)))
+    (Some (Whole (integer_value text))) None
 
 -- the decimal of a text
 abbrev pub read_decimal : List ℕ → Option Number
 read_decimal text = cond (is_decimal text) (decimal_value text) None
 
--- the number of a lexical form and a datatype
+-- the number of a lexical form and a datatype (XSD 2.3: the lexical mapping)
 abbrev pub read : List ℕ → List ℕ → Option Number
-read text datatype = cond (bytes_eq datatype xsd_decimal) (read_decimal text) (read_integer (bounds_of datatype) text)
+read text datatype = cond (is_type xsd_decimal datatype) (read_decimal text) (read_integer (bounds_of datatype) text)
 
 -- ---- writing (the canonical forms of XSD 1.1 part 2, 3.4.13, but a decimal always has its point)
 

@@ -7,3 +7,5 @@ pub mod Quotients
 pub mod Written
 pub mod Scales
 pub mod Readback
+pub mod Sums
+pub mod Forms

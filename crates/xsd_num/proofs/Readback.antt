@@ -50,7 +50,7 @@ pub no_sign : (ds rest : List ℕ) → are_digits ds ≡ true → is_empty ds �
 no_sign [] rest p e = cc
 no_sign (c ∷ cs) rest p e = sign_at c (cs ++ rest) (both_true (is_digit c) (are_digits cs) p).0
 
-point_at : (c : ℕ) (cs xs ys : List ℕ) → is_digit c ≡ true → before_point cs ≡ xs → behind_point cs ≡ ys → (before_point (c ∷ cs) ≡ c ∷ xs) × (behind_point (c ∷ cs) ≡ ys)
+pub point_at : (c : ℕ) (cs xs ys : List ℕ) → is_digit c ≡ true → before_point cs ≡ xs → behind_point cs ≡ ys → (before_point (c ∷ cs) ≡ c ∷ xs) × (behind_point (c ∷ cs) ≡ ys)
 point_at c cs xs ys p e f = grind (arith, common_steps)
 
 pub at_point : (ds rest : List ℕ) → are_digits ds ≡ true → (before_point (ds ++ 46 ∷ rest) ≡ ds) × (behind_point (ds ++ 46 ∷ rest) ≡ rest)
@@ -95,7 +95,7 @@ quotient_size : (n s : ℕ) → n < 10 ^ 64 → n / 10 ^ s < 10 ^ 64
 quotient_size n s h = let q : n / 10 ^ s ≤ n = div-le_self n (10 ^ s) in omega arith
 
 -- integers
-sign_free : (ds : List ℕ) → are_digits ds ≡ true → is_empty ds ≡ false → (is_minus ds ≡ false) × (behind_sign ds ≡ ds)
+pub sign_free : (ds : List ℕ) → are_digits ds ≡ true → is_empty ds ≡ false → (is_minus ds ≡ false) × (behind_sign ds ≡ ds)
 sign_free [] p e = cc
 sign_free (c ∷ cs) p e = sign_at c cs (both_true (is_digit c) (are_digits cs) p).0
 
@@ -124,7 +124,7 @@ signed_body : (b : Bool) (body : List ℕ) → (is_minus body ≡ false) × (beh
 signed_body false body free = free
 signed_body true body free = (refl, refl)
 
-some_join : (w f : List ℕ) → is_empty w ≡ false → is_empty (w ++ f) ≡ false
+pub some_join : (w f : List ℕ) → is_empty w ≡ false → is_empty (w ++ f) ≡ false
 some_join [] f e = cc
 some_join (c ∷ cs) f e = refl
 
