@@ -11,3 +11,4 @@ pub mod Names
 pub mod Spelling
 pub mod Terminals
 pub mod Tokens
+pub mod Numbers

@@ -1,0 +1,11 @@
+pub mod Trims
+pub mod Held
+pub mod Places
+pub mod Digits
+pub mod Texts
+pub mod Quotients
+pub mod Written
+pub mod Scales
+pub mod Readback
+pub mod Sums
+pub mod Forms
