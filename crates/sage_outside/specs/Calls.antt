@@ -45,3 +45,10 @@ abbrev pub FailsByListOrRoom : {T : Type 0} → Calls → Calls → Result T She
 FailsByListOrRoom old new (Ok x) = Passes old new
 FailsByListOrRoom old new (Err Missing) = new ≡ record old { number = counted old.number }
 FailsByListOrRoom old new (Err Failed) = FailsListed old new ⊎ FailsCramped old new
+
+-- the same calls are to fail, counted on from the same number, and none has failed
+pub record IsNumberedOn (calls new : Calls) : Type 0 where
+  pub number : new.number ≡ calls.number
+  pub fails : new.fails.items ≡ calls.fails.items
+  pub listed : new.listed ≡ 0
+  pub cramped : new.cramped ≡ 0
