@@ -1,5 +1,5 @@
 -- How long an image is, and how many blocks there are.
-use Rattle.std.proofs.Common.{◌≡◌, ℕ, ◌+◌, ◌*◌, ◌/◌, ◌^◌, ◌<◌, List, length, None, Some, length-take, length-append, arith, sym, ap, ◌∙◌}
+use Rattle.std.proofs.Common.{◌≡◌, ℕ, ◌*◌, ◌^◌, ◌<◌, List, length, None, Some, length-take, length-append, arith, sym, ap, ◌∙◌}
 use Rattle.std.proofs.lemmas.List.{length-replicate}
 use Rattle.sage_outside.specs.Blocks.{Tells, block_count, whole_blocks, image_of}
 

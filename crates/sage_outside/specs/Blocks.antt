@@ -1,5 +1,5 @@
 -- Blocks of 4,096 bytes, as far as a device tells them, and what its calls answer.
-use Rattle.std.specs.Prelude.{◌≡◌, ℕ, ◌+◌, ◌-◌, ◌*◌, ◌/◌, ◌^◌, ◌<◌, ◌≤◌, ◌++◌, min, List, length, take, drop, replicate, Option, Some, None, Result, Ok, Err}
+use Rattle.std.specs.Prelude.{◌≡◌, ℕ, ◌+◌, ◌-◌, ◌*◌, ◌/◌, ◌^◌, ◌≤◌, ◌++◌, min, List, length, take, drop, replicate, Option, Some, None, Result, Ok, Err}
 
 -- the bytes where they are told, the number of blocks, how often a call failed, and how many reads were counted
 pub record Device : Type 0 where

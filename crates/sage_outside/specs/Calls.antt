@@ -1,5 +1,5 @@
 -- The numbered calls of a form in memory, and which of them fail.
-use Rattle.std.specs.Prelude.{◌≡◌, ℕ, ◌+◌, ◌-◌, ◌^◌, min, ◌⊎◌, Contains, Result, Ok, Err}
+use Rattle.std.specs.Prelude.{◌≡◌, ℕ, zero, suc, ◌+◌, ◌-◌, ◌^◌, min, ◌⊎◌, Contains, Result, Ok, Err}
 use Rattle.std.specs.declared.vec.Vec.{Vec}
 use Rattle.std.specs.declared.alloc.Global.{Global}
 use Rattle.sage_outside.specs.declared.calls.Calls.{Calls}
@@ -52,3 +52,8 @@ pub record IsNumberedOn (calls new : Calls) : Type 0 where
   pub fails : new.fails.items ≡ calls.fails.items
   pub listed : new.listed ≡ 0
   pub cramped : new.cramped ≡ 0
+
+-- a fault is counted where the closed file has had one, and nothing else
+abbrev pub ClosesAfter : ℕ → Calls → Calls → Type 0
+ClosesAfter zero old new = new ≡ old
+ClosesAfter (suc faults) old new = new ≡ record old { listed = counted old.listed }

@@ -29,7 +29,11 @@ fn put_front(piece: &[u8], block: &mut [u8; 4096])
 fn skip(bytes: &[u8], count: usize) -> &[u8]
     ensures { result.now ≡ drop count bytes.now }
 {
-    if count < bytes.len() { &bytes[count..] } else { &[] }
+    if count < bytes.len() {
+        &bytes[count..]
+    } else {
+        &[]
+    }
 }
 
 /// At most so many bytes from the start on.
@@ -37,7 +41,11 @@ fn front(bytes: &[u8], count: usize) -> &[u8]
     ensures front { result.now ≡ take count bytes.now }
     ensures short { length result.now ≤ count }
 {
-    if count < bytes.len() { &bytes[..count] } else { bytes }
+    if count < bytes.len() {
+        &bytes[..count]
+    } else {
+        bytes
+    }
 }
 
 /// Fills the buffer with block `n` of the bytes, with zeros behind them.
@@ -187,7 +195,11 @@ impl MemStored {
     ghost use Rattle.sage_outside.specs.Blocks.{IsUnread};
 
     /// A copy of the bytes, whose calls are numbered on from these.
-    pub fn copy_of(alloc: Global, calls: &Calls, bytes: &[u8]) -> Result<MemStored, AllocError>
+    pub(crate) fn copy_of(
+        alloc: Global,
+        calls: &Calls,
+        bytes: &[u8],
+    ) -> Result<MemStored, AllocError>
         ensures image { IfOk result (λ file. (⟦<MemStored as Blocks>⟧.device file).image ≡ Some (image_of bytes.now)) }
         ensures unread { IfOk result (λ file. IsUnread (⟦<MemStored as Blocks>⟧.device file)) }
         ensures calls { IfOk result (λ file. IsNumberedOn calls.now (stored_calls file)) }
@@ -200,7 +212,7 @@ impl MemStored {
     }
 
     /// Whether a read of it failed.
-    pub fn has_failed(&self) -> bool
+    pub(crate) fn has_failed(&self) -> bool
         ensures { result ≡ nat_lt 0 (⟦<MemStored as Blocks>⟧.device self.now).faults }
     {
         self.calls.has_failed()
