@@ -1,0 +1,5 @@
+pub mod Texts
+pub mod Parts
+pub mod Places
+pub mod Answered
+pub mod Held

@@ -1,0 +1,5 @@
+pub mod Areas
+pub mod Records
+pub mod Layout
+pub mod Ranks
+
