@@ -3,3 +3,7 @@ pub mod Parts
 pub mod Places
 pub mod Answered
 pub mod Held
+pub mod Reading
+pub mod Steps
+pub mod Ranks
+pub mod Layouts

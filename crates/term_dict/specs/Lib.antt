@@ -2,4 +2,4 @@ pub mod Areas
 pub mod Records
 pub mod Layout
 pub mod Ranks
-
+pub mod Built

@@ -3,10 +3,10 @@
 
 mod area;
 mod dict;
-
-
+mod dict_image;
+mod law;
 mod record;
 
 pub use dict::Dict;
-
-
+pub use dict_image::{DictImage, build};
+pub use law::{laid_out_images_hold, places_are_ranks, records_are_read};
