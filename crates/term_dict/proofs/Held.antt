@@ -56,3 +56,7 @@ module _ (d : Dict) (ts : List Term) (image : List ℕ) (k : ℕ) (holds : Holds
       let at = held d ts image k holds lt in
       let P : Result Term StoreFault → Type 0 = λ s. Reads {X = Term} {Y = Term} (λ t. t) s (term_at d k image) in
       other_ok _ _ _ at.2 (subst P e reads)
+
+-- what was answered is what was read
+pub reads_ok : (r : Result Term StoreFault) (t : Term) (read : Result Term ℕ) → r ≡ Ok t → Reads {X = Term} {Y = Term} (λ u. u) r read → read ≡ Ok t
+reads_ok r t read e reads = let P : Result Term StoreFault → Type 0 = λ s. Reads {X = Term} {Y = Term} (λ u. u) s read in subst P e reads

@@ -7,3 +7,4 @@ pub mod Reading
 pub mod Steps
 pub mod Ranks
 pub mod Layouts
+pub mod Halves

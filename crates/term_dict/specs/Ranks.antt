@@ -1,7 +1,11 @@
 -- Ranks of terms, and the dictionary that an image holds.
-use Rattle.std.specs.Prelude.{◌≡◌, ℕ, Bool, List, length, slice_get, Option, Some, None, Result, Ok, Contains, count_by}
+use Rattle.std.specs.Prelude.{◌≡◌, ℕ, Bool, List, length, slice_get, Option, Some, None, Result, Ok, Err, Contains, count_by}
 use Rattle.std.specs.Ordering.{is_lt}
+use Rattle.std.specs.declared.cmp.Ordering.{Ordering}
+use Rattle.std.specs.declared.cmp.Ordering.TheVariants.{Equal}
 use Rattle.std.specs.List.Sorted.{IsStrictlySortedBy}
+use Rattle.sage_outside.specs.declared.fault.StoreFault.{StoreFault}
+use Rattle.sage_outside.specs.declared.fault.StoreFault.TheVariants as faults
 use Rattle.term_core.specs.declared.term.Term.{Term}
 use Rattle.term_core.specs.Order.{term_cmp}
 use Rattle.term_dict.specs.declared.dict.Dict.{Dict}
@@ -21,3 +25,11 @@ pub record Holds (d : Dict) (ts : List Term) (image : List ℕ) : Type 0 where
   pub sorted : IsStrictlySortedBy term_cmp ts
   pub terms : d.terms ≡ length ts
   pub each : (k : ℕ) (t : Term) → slice_get ts k ≡ Some t → term_at d k image ≡ Ok t
+
+-- what a call tells of how the term that was read stands to t: a tie only where it is t, and `Damaged` with the block
+-- to blame
+abbrev pub Compares : Term → Result Ordering StoreFault → Result Term ℕ → Type 0
+Compares t (Ok order) read = ((u : Term) → read ≡ Ok u → order ≡ term_cmp u t) × (order ≡ Equal → read ≡ Ok t)
+Compares t (Err (faults.Damaged block)) read = read ≡ Err block
+Compares t (Err faults.Blocks) read = Unit {0}
+Compares t (Err faults.Memory) read = Unit {0}

@@ -1,4 +1,4 @@
-// Terms by their ranks, and ranks by terms.
+// Terms by their ranks.
 ghost use Rattle.std.specs.Prelude.{◌≡◌, ◌<◌, ◌≤◌, ◌+◌, ◌-◌, ◌*◌, ◌/◌, ◌^◌, ℕ, List, Some, OnErr, IfOk, slice_get, length};
 ghost use Rattle.std.specs.declared.cmp.Ordering.{Ordering};
 ghost use Rattle.sage_outside.specs.Causes.{Rose};
@@ -6,7 +6,7 @@ ghost use Rattle.sage_outside.specs.Blocks.{HasRead, Tells};
 ghost use Rattle.term_core.specs.declared.term.Term.{Term};
 ghost use Rattle.term_dict.specs.Areas.{part_of, block_of};
 ghost use Rattle.term_dict.specs.Layout.{place_area, record_area, place_at, span_of, span_at, span_length, term_at, longest_in, Lies, Stands, Reads};
-ghost use Rattle.term_dict.specs.Ranks.{Holds, IsRank};
+ghost use Rattle.term_dict.specs.Ranks.{Holds};
 
 use crate::area::{Area, block_of, read_area};
 use crate::record::{RecordFault, term_of};
@@ -144,7 +144,7 @@ impl Dict {
     }
 
     /// The term of record `k`.
-    fn term_of_record<B: Blocks>(
+    pub(crate) fn term_of_record<B: Blocks>(
         &self,
         alloc: Global,
         blocks: &mut B,

@@ -6,6 +6,7 @@ mod dict;
 mod dict_image;
 mod law;
 mod record;
+mod search;
 
 pub use dict::Dict;
 pub use dict_image::{DictImage, build};

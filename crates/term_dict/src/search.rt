@@ -1,0 +1,109 @@
+// Ranks by terms: a search by halves.
+ghost use Rattle.std.specs.Prelude.{◌≡◌, ◌<◌, ◌≤◌, ◌+◌, ◌*◌, ◌/◌, ℕ, List, Some, IfOk};
+ghost use Rattle.sage_outside.specs.Causes.{Rose};
+ghost use Rattle.sage_outside.specs.Blocks.{HasRead, Tells};
+ghost use Rattle.term_core.specs.declared.term.Term.{Term};
+ghost use Rattle.term_dict.specs.Layout.{term_at, span_at, span_length, longest_in, Lies, Stands};
+ghost use Rattle.term_dict.specs.Ranks.{Holds, IsRank, Compares};
+
+use crate::Dict;
+use sage_outside::{Blocks, StoreFault};
+use std::alloc::Global;
+use std::cmp::Ordering;
+use term_core::{Term, compare};
+
+impl Dict {
+    /// How the term of record `k` stands to `t`.
+    fn order_at<B: Blocks>(
+        &self,
+        alloc: Global,
+        blocks: &mut B,
+        k: u32,
+        t: &Term,
+    ) -> Result<Ordering, StoreFault>
+        requires stands { Stands self.now (B.device blocks.old).count }
+        requires within { k < self.now.terms }
+        ensures read { HasRead (B.device blocks.old) (B.device blocks.new) (4 + self.now.bytes / 4080) }
+        ensures few_reads { (image : List ℕ) → Tells (B.device blocks.old).image image
+            → (B.device blocks.new).reads ≤ (B.device blocks.old).reads + (4 + span_length (span_at self.now k image) / 4080) }
+        ensures failed { result ≡ Err StoreFault.Blocks
+            → Rose (B.device blocks.old).faults (B.device blocks.new).faults }
+        ensures found { (image : List ℕ) → Tells (B.device blocks.old).image image
+            → Compares t.now result (term_at self.now k image) }
+    {
+        match self.term_of_record(alloc, blocks, k) {
+            Err(fault) => Err(fault),
+            Ok(kept) => Ok(compare(&kept, t)),
+        }
+    }
+
+    fn rank_of<B: Blocks>(
+        &self,
+        alloc: Global,
+        blocks: &mut B,
+        t: &Term,
+    ) -> Result<Option<u32>, StoreFault>
+        requires stands { Stands self.now (B.device blocks.old).count }
+        ensures read { HasRead (B.device blocks.old) (B.device blocks.new) (32 * (4 + self.now.bytes / 4080)) }
+        ensures few_reads { (image : List ℕ) → Tells (B.device blocks.old).image image → self.now.terms ≤ 12582909
+            → (B.device blocks.new).reads ≤ (B.device blocks.old).reads + 25 * (4 + longest_in self.now image / 4080) }
+        ensures failed { result ≡ Err StoreFault.Blocks
+            → Rose (B.device blocks.old).faults (B.device blocks.new).faults }
+        ensures found { (ts : List Term) (image : List ℕ) → Tells (B.device blocks.old).image image
+            → Holds self.now ts image → IfOk result (IsRank ts t.now) }
+        ensures there { (image : List ℕ) (k : ℕ) → Tells (B.device blocks.old).image image
+            → result ≡ Ok (Some k) → (k < self.now.terms) × (term_at self.now k image ≡ Ok t.now) }
+        ensures damaged { (image : List ℕ) (block : ℕ) → Tells (B.device blocks.old).image image
+            → result ≡ Err (StoreFault.Damaged block)
+            → (k : ℕ) × (k < self.now.terms) × (term_at self.now k image ≡ Err block) }
+    {
+        let mut low = 0u32;
+        let mut high = self.terms;
+        for step in 0u32..32 {
+            if low >= high {
+                return Ok(None);
+            }
+            let middle = low + (high - low) / 2;
+            match self.order_at(alloc, blocks, middle, t) {
+                Err(fault) => return Err(fault),
+                Ok(order) => match order {
+                    Ordering::Less => low = middle + 1,
+                    Ordering::Equal => return Ok(Some(middle)),
+                    Ordering::Greater => high = middle,
+                },
+            }
+        }
+        Ok(None)
+    }
+
+    /// The rank of the term, or `None` where it is not there. Memory is taken for one record and
+    /// one term at a time.
+    ///
+    /// `Damaged` names the block in which a broken number or record begins that the search came
+    /// upon. `Blocks` comes only where a read failed. Of each record that it comes upon it reads the
+    /// blocks once.
+    pub fn id_of<B: Blocks>(
+        &self,
+        alloc: Global,
+        blocks: &mut B,
+        t: &Term,
+    ) -> Result<Option<u32>, StoreFault>
+        requires lies { Lies self.now (B.device blocks.old).count }
+        ensures read { HasRead (B.device blocks.old) (B.device blocks.new) (32 * (4 + self.now.bytes / 4080)) }
+        ensures few_reads { (image : List ℕ) → Tells (B.device blocks.old).image image → self.now.terms ≤ 12582909
+            → (B.device blocks.new).reads ≤ (B.device blocks.old).reads + 25 * (4 + longest_in self.now image / 4080) }
+        ensures failed { result ≡ Err StoreFault.Blocks
+            → Rose (B.device blocks.old).faults (B.device blocks.new).faults }
+        ensures found { (ts : List Term) (image : List ℕ) → Tells (B.device blocks.old).image image
+            → Holds self.now ts image → IfOk result (IsRank ts t.now) }
+        ensures there { (image : List ℕ) (k : ℕ) → Tells (B.device blocks.old).image image
+            → result ≡ Ok (Some k) → (k < self.now.terms) × (term_at self.now k image ≡ Ok t.now) }
+        ensures damaged { (image : List ℕ) (block : ℕ) → Tells (B.device blocks.old).image image
+            → result ≡ Err (StoreFault.Damaged block)
+            → (k : ℕ) × (k < self.now.terms) × (term_at self.now k image ≡ Err block) }
+        ensures whole { (ts : List Term) (image : List ℕ) (block : ℕ) → Tells (B.device blocks.old).image image
+            → Holds self.now ts image → result ≡ Err (StoreFault.Damaged block) → ⊥ }
+    {
+        self.rank_of(alloc, blocks, t)
+    }
+}
