@@ -1,5 +1,5 @@
 -- A search by halves in a list of terms that rise strictly.
-use Rattle.std.proofs.Common.{◌≡◌, ℕ, zero, suc, ◌+◌, ◌-◌, ◌*◌, ◌/◌, ◌^◌, ◌<◌, ◌≤◌, ◌⊎◌, inl, inr, List, Some, Ok, Err, Result, refl, sym, ap, subst, ◌∙◌, arith, Contains, Less, Equal, Greater}
+use Rattle.std.proofs.Common.{◌≡◌, ℕ, zero, suc, ◌+◌, ◌-◌, ◌*◌, ◌/◌, ◌^◌, ◌<◌, ◌≤◌, ◌⊎◌, inl, inr, List, Some, Ok, Err, Result, sym, ap, subst, ◌∙◌, arith, Contains, Less, Equal, Greater}
 use Rattle.std.specs.declared.cmp.Ordering.{Ordering}
 use Rattle.std.specs.List.{slice_get}
 use Rattle.std.specs.List.Sorted.{IsStrictlySortedBy}
@@ -11,9 +11,10 @@ use Rattle.term_core.specs.declared.term.Term.{Term}
 use Rattle.term_core.specs.Order.{term_cmp}
 use Rattle.term_core.specs.OrderLaws.{terms_total, same_terms}
 use Rattle.term_dict.specs.declared.dict.Dict.{Dict}
-use Rattle.term_dict.specs.Layout.{term_at}
+use Rattle.term_dict.specs.Layout.{term_at, raw_at}
 use Rattle.term_dict.specs.Ranks.{Holds, Compares}
 use Rattle.term_dict.proofs.Held.{held}
+use Rattle.term_dict.proofs.Raw.{raw_of_term}
 use Rattle.term_dict.proofs.Ranks.{rises, greater, turned, ties, by_place, same_at, contains_get}
 
 -- the terms before low are less than t, and those from high on greater
@@ -95,32 +96,38 @@ cost_step before mid now s r h i = let e : (s + 1) * r ≡ s * r + r = grind ari
 pub cost_within : (before now s m r : ℕ) → now ≤ before + s * r → s ≤ m → now ≤ before + m * r
 cost_within before now s m r h le = let k : s * r ≤ m * r = mul-le-mul_right r le in omega arith
 
+-- the term that was read is compared
+pub compares : (d : Dict) (image : List ℕ) (k : ℕ) (t kept : Term) (order : Ordering) → term_at d k image ≡ Ok kept → order ≡ term_cmp kept t → Compares t (Ok order) (raw_at d k image) (term_at d k image)
+compares d image k t kept order is e =
+    ((kept, raw_of_term d k image kept is, sym e), λ tie. is ∙ ap Ok (same_terms kept t (sym e ∙ tie)))
+
+-- what was compared are the texts of the record
+pub compared_here : (d : Dict) (image : List ℕ) (k : ℕ) (t : Term) (r : Result Ordering StoreFault) (order : Ordering) → r ≡ Ok order
+    → Compares t r (raw_at d k image) (term_at d k image) → (u : Term) × (raw_at d k image ≡ Ok u) × (term_cmp u t ≡ order)
+compared_here d image k t r order is reads =
+    let P : Result Ordering StoreFault → Type 0 = λ s. Compares t s (raw_at d k image) (term_at d k image) in
+    let told = subst P is reads in told.0
+
 same_ok : (a b : Term) (r : Result Term ℕ) → r ≡ Ok a → r ≡ Ok b → a ≡ b
 same_ok a b r e f = cc
 
--- the term that was read is compared
-pub compares : (t kept : Term) (order : Ordering) (read : Result Term ℕ) → read ≡ Ok kept → order ≡ term_cmp kept t → Compares t (Ok order) read
-compares t kept order read is e =
-    (λ u at. e ∙ ap (λ w. term_cmp w t) (same_ok kept u read is at), λ tie. is ∙ ap Ok (same_terms kept t (sym e ∙ tie)))
+-- they are those of the term of that place
+pub compared_held : (d : Dict) (ts : List Term) (image : List ℕ) (k : ℕ) (t u : Term) (order : Ordering) → Holds d ts image → k < d.terms
+    → raw_at d k image ≡ Ok u → term_cmp u t ≡ order → slice_get ts k ≡ Some u
+compared_held d ts image k t u order holds lt raw is =
+    let at = held d ts image k holds lt in
+    at.1 ∙ ap Some (same_ok at.0 u (raw_at d k image) (raw_of_term d k image at.0 at.2) raw)
 
-module _ (d : Dict) (ts : List Term) (image : List ℕ) (k : ℕ) (t : Term) (holds : Holds d ts image) (lt : k < d.terms) where
-  -- what was compared is the term of that place
-  pub compared_here : (r : Result Ordering StoreFault) (order : Ordering) → r ≡ Ok order → Compares t r (term_at d k image) → (u : Term) × (slice_get ts k ≡ Some u) × (term_cmp u t ≡ order)
-  compared_here r order is reads =
-      let at = held d ts image k holds lt in
-      let P : Result Ordering StoreFault → Type 0 = λ s. Compares t s (term_at d k image) in
-      let told = subst P is reads in
-      (at.0, at.1, sym (told.0 at.0 at.2))
-
-pub tie_at : (d : Dict) (image : List ℕ) (k : ℕ) (t : Term) (r : Result Ordering StoreFault) (order : Ordering) → r ≡ Ok order → order ≡ Equal → Compares t r (term_at d k image) → term_at d k image ≡ Ok t
+pub tie_at : (d : Dict) (image : List ℕ) (k : ℕ) (t : Term) (r : Result Ordering StoreFault) (order : Ordering) → r ≡ Ok order → order ≡ Equal
+    → Compares t r (raw_at d k image) (term_at d k image) → term_at d k image ≡ Ok t
 tie_at d image k t r order is tie reads =
-    let P : Result Ordering StoreFault → Type 0 = λ s. Compares t s (term_at d k image) in
+    let P : Result Ordering StoreFault → Type 0 = λ s. Compares t s (raw_at d k image) (term_at d k image) in
     let told = subst P is reads in told.1 tie
 
 pub damaged_at : (d : Dict) (image : List ℕ) (k : ℕ) (t : Term) (r : Result Ordering StoreFault) (fault : StoreFault) (block : ℕ) → r ≡ Err fault → fault ≡ faults.Damaged block
-    → Compares t r (term_at d k image) → term_at d k image ≡ Err block
+    → Compares t r (raw_at d k image) (term_at d k image) → term_at d k image ≡ Err block
 damaged_at d image k t r fault block is damaged reads =
-    let P : Result Ordering StoreFault → Type 0 = λ s. Compares t s (term_at d k image) in subst P (is ∙ ap Err damaged) reads
+    let P : Result Ordering StoreFault → Type 0 = λ s. Compares t s (raw_at d k image) (term_at d k image) in subst P (is ∙ ap Err damaged) reads
 
 other_ok : (a : Term) (b : ℕ) (r : Result Term ℕ) → r ≡ Ok a → r ≡ Err b → ⊥
 other_ok a b r e f = cc
@@ -135,3 +142,7 @@ few_more before mid now s r cost h i le few = cost_within before now (s + 1) 25 
 
 pub four_more : (n longest : ℕ) → n ≤ longest → 4 + n / 4080 ≤ 4 + longest / 4080
 four_more n longest le = omega arith
+
+-- the record before the place is less
+pub lower_here : (d : Dict) (t : Term) (image : List ℕ) (m k : ℕ) (u : Term) → m ≡ k → raw_at d m image ≡ Ok u → term_cmp u t ≡ Less → (v : Term) × (raw_at d k image ≡ Ok v) × (term_cmp v t ≡ Less)
+lower_here d t image m k u e raw less = (u, ap (λ j. raw_at d j image) (sym e) ∙ raw, less)

@@ -1,5 +1,5 @@
 -- What an image that holds a list of terms gives, and how long its records are.
-use Rattle.std.proofs.Common.{◌≡◌, ℕ, zero, suc, [], ◌∷◌, ◌+◌, ◌/◌, ◌<◌, ◌≤◌, List, length, Some, Ok, Err, IfOk, Result, refl, ap, subst, ◌∙◌, arith}
+use Rattle.std.proofs.Common.{◌≡◌, ℕ, zero, suc, [], ◌∷◌, ◌<◌, ◌≤◌, List, length, Some, Ok, Err, IfOk, Result, refl, ap, subst, ◌∙◌, arith}
 use Rattle.std.specs.List.{slice_get}
 use Rattle.sage_outside.specs.declared.fault.StoreFault.{StoreFault}
 use Rattle.sage_outside.specs.declared.fault.StoreFault.TheVariants as faults
@@ -19,8 +19,8 @@ longest_of_first : (d : Dict) (image : List ℕ) (n k : ℕ) → k < n → span_
 longest_of_first d image zero k lt = absurd (omega arith)
 longest_of_first d image (suc n) k lt =
     by_last (span_length (span_at d k image) ≤ longest_to d (suc n) image) k n lt
-        (λ e. omega (arith, ap (λ j. span_length (span_at d j image)) e))
-        (λ lower. omega (arith, longest_of_first d image n k lower))
+    (λ e. omega (arith, ap (λ j. span_length (span_at d j image)) e))
+    (λ lower. omega (arith, longest_of_first d image n k lower))
 
 -- no record is longer than the longest
 pub no_longer : (d : Dict) (image : List ℕ) (k : ℕ) → k < d.terms → span_length (span_at d k image) ≤ longest_in d image

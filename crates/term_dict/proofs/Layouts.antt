@@ -29,8 +29,8 @@ numbered (x ∷ xs) zero lt = refl
 numbered (x ∷ xs) (suc k) lt =
     let place : 8 * suc k ≡ 8 + 8 * k = omega arith in
     ap (λ n. take 8 (drop n (to_be_bytes w64 x ++ flat_map (to_be_bytes w64) xs))) place
-        ∙ ap (take 8) (sym (drop-drop (8 * k) 8 (to_be_bytes w64 x ++ flat_map (to_be_bytes w64) xs)))
-        ∙ numbered xs k (omega arith)
+    ∙ ap (take 8) (sym (drop-drop (8 * k) 8 (to_be_bytes w64 x ++ flat_map (to_be_bytes w64) xs)))
+    ∙ numbered xs k (omega arith)
 
 -- record k begins behind the records before it
 place_get : (n : ℕ) (ts : List Term) (k : ℕ) → k ≤ length ts → get_or (places_from n ts) k 0 ≡ n + length (records_of (take k ts))
@@ -53,8 +53,8 @@ record_at (x ∷ ts) (suc k) t at =
     let r = record_of x in
     let m = length (records_of (take k ts)) in
     ap (λ n. take (length (record_of t)) (drop n (r ++ records_of ts))) (length-append r (records_of (take k ts)))
-        ∙ ap (take (length (record_of t))) (sym (drop-drop m (length r) (r ++ records_of ts)) ∙ ap (drop m) (drop_at r (records_of ts) (length r) refl))
-        ∙ record_at ts k t at
+    ∙ ap (take (length (record_of t))) (sym (drop-drop m (length r) (r ++ records_of ts)) ∙ ap (drop m) (drop_at r (records_of ts) (length r) refl))
+    ∙ record_at ts k t at
 
 next : (ts : List Term) (k : ℕ) (t : Term) → slice_get ts k ≡ Some t → length (records_of (take (suc k) ts)) ≡ length (records_of (take k ts)) + length (record_of t)
 next [] k t at = cc
@@ -102,7 +102,7 @@ module _ (d : Dict) (ts : List Term) (image : List ℕ) (laid : IsLaidOut d ts i
       let all = area_bytes (place_area d) image in
       let cut : take 8 (drop (8 * k) all) ≡ take 8 (drop (8 * k) (take (8 * (length ts + 1)) all)) = sym (front_behind 8 (8 * k) (8 * (length ts + 1)) all (omega arith)) in
       let here : take 8 (drop (8 * k) all) ≡ to_be_bytes w64 n =
-          cut ∙ ap (λ l. take 8 (drop (8 * k) l)) laid.places ∙ numbered (places_from 0 ts) k (omega (arith, length_places 0 ts)) ∙ ap (to_be_bytes w64) (place_get 0 ts k le ∙ omega arith) in
+      cut ∙ ap (λ l. take 8 (drop (8 * k) l)) laid.places ∙ numbered (places_from 0 ts) k (omega (arith, length_places 0 ts)) ∙ ap (to_be_bytes w64) (place_get 0 ts k le ∙ omega arith) in
       ap (from_be_bytes w64) here ∙ from_be_bytes-to_be_bytes_8 n (omega (arith, within ts k, laid.bytes, laid.fits))
 
   record_is : (k : ℕ) (t : Term) → slice_get ts k ≡ Some t → part_of (record_area d) (length (records_of (take k ts))) (length (record_of t)) image ≡ record_of t
@@ -110,7 +110,7 @@ module _ (d : Dict) (ts : List Term) (image : List ℕ) (laid : IsLaidOut d ts i
       let from = length (records_of (take k ts)) in
       let all = area_bytes (record_area d) image in
       sym (front_behind (length (record_of t)) from (length (records_of ts)) all (omega (arith, next ts k t at, within ts (suc k))))
-          ∙ ap (λ l. take (length (record_of t)) (drop from l)) laid.records ∙ record_at ts k t at
+      ∙ ap (λ l. take (length (record_of t)) (drop from l)) laid.records ∙ record_at ts k t at
 
   span_is : (k : ℕ) (t : Term) → slice_get ts k ≡ Some t → span_at d k image ≡ Ok (length (records_of (take k ts)), length (records_of (take k ts)) + length (record_of t))
   span_is k t at =
@@ -119,7 +119,7 @@ module _ (d : Dict) (ts : List Term) (image : List ℕ) (laid : IsLaidOut d ts i
       let first : place_at d k image ≡ from = place_is k (omega (arith, inside ts k t at)) in
       let second : place_at d (k + 1) image ≡ end = ap (λ j. place_at d j image) (omega arith) ∙ place_is (suc k) (omega (arith, inside ts k t at)) ∙ next ts k t at in
       ap (λ a. span_of d k a (place_at d (k + 1) image)) first ∙ ap (span_of d k from) second
-          ∙ span_ok d k from end (λ e. ap (λ j. length (records_of (take j ts))) e) (omega (arith, some_bytes t)) (omega (arith, laid.bytes, next ts k t at, within ts (suc k)))
+      ∙ span_ok d k from end (λ e. ap (λ j. length (records_of (take j ts))) e) (omega (arith, some_bytes t)) (omega (arith, laid.bytes, next ts k t at, within ts (suc k)))
 
   each_is : (k : ℕ) (t : Term) → slice_get ts k ≡ Some t → term_at d k image ≡ Ok t
   each_is k t at =

@@ -3,6 +3,7 @@ pub mod Parts
 pub mod Places
 pub mod Answered
 pub mod Held
+pub mod Raw
 pub mod Reading
 pub mod Steps
 pub mod Ranks

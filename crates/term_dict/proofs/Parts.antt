@@ -30,10 +30,10 @@ in_block p (suc n) (suc b) o k bytes h l lt i =
     let place : suc b * p + o ≡ p + (b * p + o) = grind arith in
     let rest = payloads p n (drop 4096 bytes) in
     let skip : drop (suc b * p + o) (take p bytes ++ rest) ≡ drop (b * p + o) rest =
-        ap (λ m. drop m (take p bytes ++ rest)) place ∙ sym (drop-drop (b * p + o) p (take p bytes ++ rest)) ∙ ap (drop (b * p + o)) (drop_at (take p bytes) rest p long) in
+    ap (λ m. drop m (take p bytes ++ rest)) place ∙ sym (drop-drop (b * p + o) p (take p bytes ++ rest)) ∙ ap (drop (b * p + o)) (drop_at (take p bytes) rest p long) in
     let behind : drop (4096 * b) (drop 4096 bytes) ≡ drop (4096 * suc b) bytes = drop-drop (4096 * b) 4096 bytes ∙ ap (λ m. drop m bytes) (omega arith) in
     ap (take k) skip ∙ in_block p n b o k (drop 4096 bytes) h (omega (arith, length-drop {A = ℕ})) (omega arith) i
-        ∙ ap (λ xs. take k (drop o (take 4096 xs))) behind
+    ∙ ap (λ xs. take k (drop o (take 4096 xs))) behind
 
 behind_of : (p f a n c : ℕ) → (p ≡ 4096) ⊎ (p ≡ 4080) → f * p + a + n ≤ c * p → 0 < n → f + a / p < c
 behind_of p f a n c (inl e) h s = let i = rw e at h in rw e (omega arith)
@@ -56,7 +56,7 @@ module _ (area : Area) (at n count : ℕ) (image : List ℕ) (fits : Fits area a
       let m = length image / 4096 - area.first in
       let here = in_block p m (at / p) (at % p) n (drop (4096 * area.first) image) small (omega (arith, length-drop {A = ℕ}, behind)) (omega (arith, behind, whole)) within in
       let start : drop (4096 * (at / p)) (drop (4096 * area.first) image) ≡ drop (4096 * (area.first + at / p)) image =
-          drop-drop (4096 * (at / p)) (4096 * area.first) image ∙ ap (λ k. drop k image) (omega arith) in
+      drop-drop (4096 * (at / p)) (4096 * area.first) image ∙ ap (λ k. drop k image) (omega arith) in
       let place : (at / p) * p + at % p ≡ at = split_place p (omega (arith, some, within)) in
       ap (λ xs. take n (drop (at % p) (take 4096 xs))) (sym start) ∙ sym here ∙ ap (λ k. take n (drop k (area_bytes area image))) place
 

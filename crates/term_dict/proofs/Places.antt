@@ -14,4 +14,4 @@ pub second_place : (d : Dict) (k : ℕ) (image bytes : List ℕ) → bytes ≡ p
 unfolding place_at
 second_place d k image bytes e =
     ap (λ xs. from_be_bytes w64 (take 8 (drop 8 xs))) e
-        ∙ ap (from_be_bytes w64) (part_behind (place_area d) (8 * k) 8 8 16 image (omega arith) ∙ ap (λ at. part_of (place_area d) at 8 image) (omega arith))
+    ∙ ap (from_be_bytes w64) (part_behind (place_area d) (8 * k) 8 8 16 image (omega arith) ∙ ap (λ at. part_of (place_area d) at 8 image) (omega arith))

@@ -8,7 +8,7 @@ use Rattle.std.proofs.lemmas.Option.{slice_get-get_or, get_or_from_slice_get}
 use Rattle.std.proofs.lemmas.List.Sums.{sum_by-cons}
 use Rattle.term_core.specs.declared.term.Term.{Term}
 use Rattle.term_core.specs.Order.{term_cmp}
-use Rattle.term_core.specs.OrderLaws.{terms_total, same_terms}
+use Rattle.term_core.specs.OrderLaws.{terms_total}
 use Rattle.term_dict.specs.Ranks.{rank}
 
 all_get : (P : Term → Type 0) (ts : List Term) (k : ℕ) (u : Term) → AllByRecursion P ts → slice_get ts k ≡ Some u → P u
@@ -69,7 +69,7 @@ counted p (x ∷ xs) zero le below above =
     sym (no_more p x xs (above 0 x refl (omega arith)) (sym (counted p xs zero (omega arith) (λ k y at lt. absurd (omega arith)) (λ k y at ge. above (suc k) y at (omega arith)))))
 counted p (x ∷ xs) (suc n) le below above =
     one_more p x xs n (below 0 x refl (omega arith))
-        (counted p xs n (omega arith) (λ k y at lt. below (suc k) y at (omega arith)) (λ k y at ge. above (suc k) y at (omega arith)))
+    (counted p xs n (omega arith) (λ k y at lt. below (suc k) y at (omega arith)) (λ k y at ge. above (suc k) y at (omega arith)))
 
 pub inside : (ts : List Term) (k : ℕ) (t : Term) → slice_get ts k ≡ Some t → k < length ts
 inside [] k t at = cc
@@ -80,10 +80,10 @@ inside (x ∷ ts) (suc k) t at = omega (arith, inside ts k t at)
 pub place_is_rank : (ts : List Term) (t : Term) (k : ℕ) → IsStrictlySortedBy term_cmp ts → slice_get ts k ≡ Some t → k ≡ rank ts t
 place_is_rank ts t k sorted at =
     counted (λ u. is_lt (term_cmp u t)) ts k (omega (arith, inside ts k t at))
-        (λ j u at_j lt. ap is_lt (rises ts j k u t sorted at_j at lt))
-        (λ j u at_j ge. by_place (is_lt (term_cmp u t) ≡ false) k j ge
-            (λ e. ap is_lt (ap (λ w. term_cmp w t) (same_at ts k j u t e at_j at) ∙ ties t))
-            (λ gt. ap is_lt (turned t u (rises ts k j t u sorted at at_j gt))))
+    (λ j u at_j lt. ap is_lt (rises ts j k u t sorted at_j at lt))
+    (λ j u at_j ge. by_place (is_lt (term_cmp u t) ≡ false) k j ge
+    (λ e. ap is_lt (ap (λ w. term_cmp w t) (same_at ts k j u t e at_j at) ∙ ties t))
+    (λ gt. ap is_lt (turned t u (rises ts k j t u sorted at at_j gt))))
 
 pub contains_get : (ts : List Term) (t : Term) → Contains ts t → (k : ℕ) × (slice_get ts k ≡ Some t)
 contains_get ts t (k, within, is) = (k, slice_get-get_or ts k t within ∙ ap Some is)

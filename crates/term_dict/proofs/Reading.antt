@@ -27,9 +27,15 @@ literal_back : (lexical datatype lang : List ℕ) → IsText (Literal lexical da
     → literal_at (to_be_bytes w32 (length datatype) ++ (to_be_bytes w32 (length lang) ++ (datatype ++ (lang ++ lexical)))) ≡ Some (Literal lexical datatype lang)
 unfolding literal_at
 literal_back lexical datatype lang is =
-    rw (number_back (length datatype) (to_be_bytes w32 (length lang) ++ (datatype ++ (lang ++ lexical))) is.datatype_short,
-        number_back (length lang) (datatype ++ (lang ++ lexical)) is.lang_short,
-        cut_back datatype (lang ++ lexical), text_utf8 datatype is.datatype, cut_back lang lexical, text_utf8 lang is.lang, text_utf8 lexical is.text) refl
+    rw (
+      number_back (length datatype) (to_be_bytes w32 (length lang) ++ (datatype ++ (lang ++ lexical))) is.datatype_short,
+      number_back (length lang) (datatype ++ (lang ++ lexical)) is.lang_short,
+      cut_back datatype (lang ++ lexical),
+      text_utf8 datatype is.datatype,
+      cut_back lang lexical,
+      text_utf8 lang is.lang,
+      text_utf8 lexical is.text,
+    ) refl
 
 pub term_back : (t : Term) → IsText t → term_in (record_of t) ≡ Some t
 term_back (Blank label) is = rw (text_utf8 label is.text) refl

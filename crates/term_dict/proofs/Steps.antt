@@ -1,5 +1,5 @@
 -- One more term among the places and the records.
-use Rattle.std.proofs.Common.{◌≡◌, ℕ, zero, suc, ◌+◌, ◌<◌, ◌≤◌, ◌++◌, max, List, [], ◌∷◌, length, drop, get_or, Some, sym, ap, subst, ◌∙◌, arith, append_assoc, length-append}
+use Rattle.std.proofs.Common.{◌≡◌, ℕ, ◌+◌, ◌<◌, ◌≤◌, ◌++◌, max, List, [], ◌∷◌, length, drop, get_or, Some, sym, ap, subst, ◌∙◌, arith, append_assoc, length-append}
 use Rattle.std.specs.List.{slice_get}
 use Rattle.std.proofs.lemmas.List.{drop_more}
 use Rattle.term_core.specs.declared.term.Term.{Term}
@@ -43,5 +43,5 @@ pub texts_more : (ts : List Term) (i : ℕ) (t : Term) → slice_get ts i ≡ So
     → ((k : ℕ) (u : Term) → k < i → slice_get ts k ≡ Some u → IsText u) → (k : ℕ) (u : Term) → k < i + 1 → slice_get ts k ≡ Some u → IsText u
 texts_more ts i t at is before k u lt at_k =
     by_last (IsText u) k i (omega arith)
-        (λ e. let same : t ≡ u = (let f : slice_get ts k ≡ slice_get ts i = ap (slice_get ts) e in cc) in subst IsText same is)
-        (λ lower. before k u lower at_k)
+    (λ e. let same : t ≡ u = (let f : slice_get ts k ≡ slice_get ts i = ap (slice_get ts) e in cc) in subst IsText same is)
+    (λ lower. before k u lower at_k)

@@ -1,5 +1,5 @@
 -- The dictionary behind an image: the places of its records, and the records, as they are read.
-use Rattle.std.specs.Prelude.{◌≡◌, ℕ, zero, suc, ◌+◌, ◌-◌, ◌*◌, ◌/◌, ◌^◌, ◌<◌, ◌≤◌, ◌⊎◌, ◌==◌, max, List, nat_lt, nat_le, Option, Some, None, Result, Ok, Err, if◌then◌else◌}
+use Rattle.std.specs.Prelude.{◌≡◌, ℕ, zero, suc, ◌+◌, ◌-◌, ◌*◌, ◌^◌, ◌<◌, ◌≤◌, ◌⊎◌, ◌==◌, max, List, nat_lt, nat_le, Option, Some, None, Result, Ok, Err, if◌then◌else◌}
 use Rattle.std.specs.Int.{w64, from_be_bytes}
 use Rattle.sage_outside.specs.declared.fault.StoreFault.{StoreFault}
 use Rattle.sage_outside.specs.declared.fault.StoreFault.TheVariants as faults
@@ -7,7 +7,7 @@ use Rattle.term_core.specs.declared.term.Term.{Term}
 use Rattle.term_dict.specs.declared.area.Area.{Area}
 use Rattle.term_dict.specs.declared.dict.Dict.{Dict}
 use Rattle.term_dict.specs.Areas.{part_of, block_of}
-use Rattle.term_dict.specs.Records.{term_in}
+use Rattle.term_dict.specs.Records.{term_in, raw_in}
 
 -- the area of the numbers that tell where records begin
 abbrev pub place_area : Dict → Area
@@ -52,6 +52,15 @@ record_in d (Err block) image = Err block
 -- the term of record k, or the block in which its broken number or record begins
 abbrev pub term_at : Dict → ℕ → List ℕ → Result Term ℕ
 term_at d k image = record_in d (span_at d k image) image
+
+-- the texts of record k, whether they are UTF-8 or not, or the block in which its broken number or record begins
+abbrev pub raw_record_in : Dict → Result (ℕ × ℕ) ℕ → List ℕ → Result Term ℕ
+raw_record_in d (Ok span) image =
+    or_block (block_of (record_area d) span.0) (raw_in (part_of (record_area d) span.0 (span.1 - span.0) image))
+raw_record_in d (Err block) image = Err block
+
+abbrev pub raw_at : Dict → ℕ → List ℕ → Result Term ℕ
+raw_at d k image = raw_record_in d (span_at d k image) image
 
 -- a call gives what reading the image gives, `Damaged` with the block to blame; other refusals say nothing of it
 abbrev pub Reads : {X Y : Type 0} → (X → Y) → Result X StoreFault → Result Y ℕ → Type 0

@@ -58,3 +58,19 @@ term_in (kind ∷ rest) =
     if kind == 0 then (text_at rest >>= λ label. Some (terms.Blank label))
     else if kind == 1 then (text_at rest >>= λ iri. Some (terms.Iri iri))
     else if kind == 2 then literal_at rest else None
+
+-- a literal's three texts, whether they are UTF-8 or not
+unfoldable pub raw_literal_at : List ℕ → Option Term
+raw_literal_at bytes = do
+  n ← number_at bytes
+  m ← number_at n.1
+  front ← cut_at n.0 m.1
+  middle ← cut_at m.0 front.1
+  Some (terms.Literal middle.1 front.0 middle.0)
+
+-- the texts that a record spells, whether they are UTF-8 or not
+abbrev pub raw_in : List ℕ → Option Term
+raw_in [] = None
+raw_in (kind ∷ rest) =
+    if kind == 0 then Some (terms.Blank rest) else if kind == 1 then Some (terms.Iri rest)
+    else if kind == 2 then raw_literal_at rest else None

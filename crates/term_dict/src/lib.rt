@@ -7,6 +7,8 @@ mod dict_image;
 mod law;
 mod record;
 mod search;
+#[cfg(test)]
+mod tests;
 
 pub use dict::Dict;
 pub use dict_image::{DictImage, build};

@@ -1,10 +1,10 @@
 // Ranks by terms: a search by halves.
-ghost use Rattle.std.specs.Prelude.{◌≡◌, ◌<◌, ◌≤◌, ◌+◌, ◌*◌, ◌/◌, ℕ, List, Some, IfOk};
+ghost use Rattle.std.specs.Prelude.{◌≡◌, ◌<◌, ◌≤◌, ◌+◌, ◌*◌, ◌/◌, ℕ, List, Some, None, IfOk};
 ghost use Rattle.sage_outside.specs.Causes.{Rose};
 ghost use Rattle.sage_outside.specs.Blocks.{HasRead, Tells};
 ghost use Rattle.term_core.specs.declared.term.Term.{Term};
-ghost use Rattle.term_dict.specs.Layout.{term_at, span_at, span_length, longest_in, Lies, Stands};
-ghost use Rattle.term_dict.specs.Ranks.{Holds, IsRank, Compares};
+ghost use Rattle.term_dict.specs.Layout.{term_at, raw_at, span_at, span_length, longest_in, Lies, Stands};
+ghost use Rattle.term_dict.specs.Ranks.{Holds, IsRank, IsGap, Compares};
 
 use crate::Dict;
 use sage_outside::{Blocks, StoreFault};
@@ -29,7 +29,7 @@ impl Dict {
         ensures failed { result ≡ Err StoreFault.Blocks
             → Rose (B.device blocks.old).faults (B.device blocks.new).faults }
         ensures found { (image : List ℕ) → Tells (B.device blocks.old).image image
-            → Compares t.now result (term_at self.now k image) }
+            → Compares t.now result (raw_at self.now k image) (term_at self.now k image) }
     {
         match self.term_of_record(alloc, blocks, k) {
             Err(fault) => Err(fault),
@@ -53,6 +53,8 @@ impl Dict {
             → Holds self.now ts image → IfOk result (IsRank ts t.now) }
         ensures there { (image : List ℕ) (k : ℕ) → Tells (B.device blocks.old).image image
             → result ≡ Ok (Some k) → (k < self.now.terms) × (term_at self.now k image ≡ Ok t.now) }
+        ensures absent { (image : List ℕ) → Tells (B.device blocks.old).image image
+            → result ≡ Ok None → IsGap self.now t.now image }
         ensures damaged { (image : List ℕ) (block : ℕ) → Tells (B.device blocks.old).image image
             → result ≡ Err (StoreFault.Damaged block)
             → (k : ℕ) × (k < self.now.terms) × (term_at self.now k image ≡ Err block) }
@@ -98,6 +100,8 @@ impl Dict {
             → Holds self.now ts image → IfOk result (IsRank ts t.now) }
         ensures there { (image : List ℕ) (k : ℕ) → Tells (B.device blocks.old).image image
             → result ≡ Ok (Some k) → (k < self.now.terms) × (term_at self.now k image ≡ Ok t.now) }
+        ensures absent { (image : List ℕ) → Tells (B.device blocks.old).image image
+            → result ≡ Ok None → IsGap self.now t.now image }
         ensures damaged { (image : List ℕ) (block : ℕ) → Tells (B.device blocks.old).image image
             → result ≡ Err (StoreFault.Damaged block)
             → (k : ℕ) × (k < self.now.terms) × (term_at self.now k image ≡ Err block) }

@@ -1,4 +1,4 @@
-use Rattle.std.proofs.Common.{rules, ◌≡◌, ◌+◌, ◌-◌, ◌≤◌, ◌++◌, ℕ, length, arith, refl, ap, ◌∙◌, length-append, [], ◌∷◌, max, Some}
+use Rattle.std.proofs.Common.{◌≡◌, ◌+◌, ◌++◌, length, arith, refl, ap, ◌∙◌, length-append, [], ◌∷◌, max, Some}
 use Rattle.std.specs.List.{slice_get}
 use Rattle.std.proofs.lemmas.Option.{slice_get_read}
 use Rattle.std.proofs.lemmas.Grind.{common_steps}

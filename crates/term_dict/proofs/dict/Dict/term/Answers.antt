@@ -1,5 +1,4 @@
-use Rattle.std.proofs.Common.{◌≤◌, arith}
-use Rattle.term_dict.specs.Layout.{span_at, span_length, longest_in}
+use Rattle.std.proofs.Common.{arith}
 use Rattle.term_dict.proofs.Held.{no_longer, held_term, none_damaged}
 use Rattle.term_dict.proofs.dict.Dict.term.Goals as goal
 
