@@ -1,5 +1,6 @@
 pub mod Texts
 pub mod Parts
+pub mod Touched
 pub mod Places
 pub mod Answered
 pub mod Held
@@ -9,3 +10,5 @@ pub mod Steps
 pub mod Ranks
 pub mod Layouts
 pub mod Halves
+pub mod Fronts
+pub mod Behind

@@ -67,7 +67,7 @@ take_nil : (n : ℕ) → take {A = ℕ} n [] ≡ []
 take_nil zero = refl
 take_nil (suc n) = refl
 
-joined : (a n : ℕ) (xs : List ℕ) → take a xs ++ take n (drop a xs) ≡ take (a + n) xs
+pub joined : (a n : ℕ) (xs : List ℕ) → take a xs ++ take n (drop a xs) ≡ take (a + n) xs
 joined zero n xs = ap (λ k. take k xs) (omega arith)
 joined (suc a) n [] = take_nil n ∙ sym (take_nil (suc a + n))
 joined (suc a) n (x ∷ xs) = ap (λ l. x ∷ l) (joined a n xs) ∙ ap (λ k. take k (x ∷ xs)) (let e : suc (a + n) ≡ suc a + n = omega arith in e)
@@ -92,7 +92,7 @@ part_behind area at o k n image le =
 pub record Early (p at done len : ℕ) (before now : ℕ) : Type 0 where
   pub within : done ≤ len
   pub risen : before ≤ now
-  pub all : now ≤ before + (at % p + done) / p + 1
+  pub all : now ≤ before + (at % p + done + (p - 1)) / p
   pub early : done < len → now ≤ before + (at % p + done) / p
 
 early_whole : (at done len k before now next : ℕ) → Early 4096 at done len before now → done < len → k ≡ min (4096 - (at + done) % 4096) (len - done) → now ≤ next → next ≤ now + 1 → Early 4096 at (done + k) len before next

@@ -37,11 +37,11 @@ raw_kind false true c rest u e = bind_text rest (λ iri. Some (Iri iri)) u e
 raw_kind false false true rest u e = raw_literal rest u e
 raw_kind false false false rest u e = cc
 
-raw_of : (bytes : List ℕ) (u : Term) → term_in bytes ≡ Some u → raw_in bytes ≡ Some u
+pub raw_of : (bytes : List ℕ) (u : Term) → term_in bytes ≡ Some u → raw_in bytes ≡ Some u
 raw_of [] u e = cc
 raw_of (kind ∷ rest) u e = raw_kind (kind == 0) (kind == 1) (kind == 2) rest u e
 
-or_raw : (block : ℕ) (o p : Option Term) (u : Term) → (o ≡ Some u → p ≡ Some u) → or_block block o ≡ Ok u → or_block block p ≡ Ok u
+pub or_raw : (block : ℕ) (o p : Option Term) (u : Term) → (o ≡ Some u → p ≡ Some u) → or_block block o ≡ Ok u → or_block block p ≡ Ok u
 or_raw block None p u more e = cc
 or_raw block (Some t) p u more e = let same : t ≡ u = cc in ap (or_block block) (more (ap Some same))
 

@@ -1,5 +1,5 @@
 -- The bytes of an area of blocks: those of the payloads, one block after the other.
-use Rattle.std.specs.Prelude.{◌≡◌, ℕ, zero, suc, ◌+◌, ◌-◌, ◌*◌, ◌/◌, ◌^◌, ◌<◌, ◌≤◌, ◌⊎◌, ◌++◌, List, [], length, take, drop}
+use Rattle.std.specs.Prelude.{◌≡◌, ℕ, zero, suc, ◌+◌, ◌-◌, ◌*◌, ◌/◌, ◌%◌, ◌^◌, ◌<◌, ◌≤◌, ◌⊎◌, ◌++◌, List, [], length, take, drop}
 use Rattle.term_dict.specs.declared.area.Area.{Area}
 
 -- the first p bytes of each of so many blocks of 4,096
@@ -18,6 +18,10 @@ part_of area at n bytes = take n (drop at (area_bytes area bytes))
 -- the block in which the byte of a place stands
 abbrev pub block_of : Area → ℕ → ℕ
 block_of area at = area.first + at / area.payload
+
+-- how many blocks n bytes from a place on touch
+abbrev pub touched : ℕ → ℕ → ℕ → ℕ
+touched p at n = (at % p + n + (p - 1)) / p
 
 -- the payload is whole or leaves 16 bytes for a tag, and so many bytes from a place on are within the blocks
 pub record Fits (area : Area) (at n count : ℕ) : Type 0 where

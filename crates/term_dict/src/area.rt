@@ -2,7 +2,7 @@
 ghost use Rattle.std.specs.Prelude.{◌≡◌, ◌<◌, ◌≤◌, ◌+◌, ◌*◌, ◌/◌, ◌%◌, ℕ, List, OnErr, OnOk, length, take, drop};
 ghost use Rattle.sage_outside.specs.Causes.{Rose};
 ghost use Rattle.sage_outside.specs.Blocks.{HasRead, Tells, block_at};
-ghost use Rattle.term_dict.specs.Areas.{Fits, part_of, block_of};
+ghost use Rattle.term_dict.specs.Areas.{Fits, part_of, block_of, touched};
 
 use sage_outside::{Blocks, Failed};
 
@@ -70,7 +70,7 @@ pub fn read_area<B: Blocks>(
     buf: &mut [u8],
 ) -> Result<(), Failed>
     requires { Fits area.now at (length buf.old) (B.device blocks.old).count }
-    ensures read { HasRead (B.device blocks.old) (B.device blocks.new) (length buf.old / area.now.payload + 2) }
+    ensures read { HasRead (B.device blocks.old) (B.device blocks.new) (touched area.now.payload at (length buf.old)) }
     ensures failed { OnErr result (Rose (B.device blocks.old).faults (B.device blocks.new).faults) }
     ensures found { (image : List ℕ) → Tells (B.device blocks.old).image image
         → OnOk result (buf.new ≡ part_of area.now at (length buf.new) image) }

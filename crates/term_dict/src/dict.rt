@@ -4,9 +4,10 @@ ghost use Rattle.std.specs.declared.cmp.Ordering.{Ordering};
 ghost use Rattle.sage_outside.specs.Causes.{Rose};
 ghost use Rattle.sage_outside.specs.Blocks.{HasRead, Tells};
 ghost use Rattle.term_core.specs.declared.term.Term.{Term};
-ghost use Rattle.term_dict.specs.Areas.{part_of, block_of};
-ghost use Rattle.term_dict.specs.Layout.{place_area, record_area, place_at, span_of, span_at, span_length, term_at, longest_in, Lies, Stands, Reads};
+ghost use Rattle.term_dict.specs.Areas.{part_of, block_of, touched};
+ghost use Rattle.term_dict.specs.Layout.{place_area, record_area, place_at, span_of, span_at, span_length, term_at, or_block, longest_in, Lies, Stands, Reads};
 ghost use Rattle.term_dict.specs.Ranks.{Holds};
+ghost use Rattle.term_dict.specs.Records.{term_in};
 
 use crate::area::{Area, block_of, read_area};
 use crate::record::{RecordFault, term_of};
@@ -100,7 +101,7 @@ impl Dict {
     }
 
     /// Where record `k` begins and ends.
-    fn span<B: Blocks>(&self, blocks: &mut B, k: u32) -> Result<(u64, u64), StoreFault>
+    pub(crate) fn span<B: Blocks>(&self, blocks: &mut B, k: u32) -> Result<(u64, u64), StoreFault>
         requires stands { Stands self.now (B.device blocks.old).count }
         requires within { k < self.now.terms }
         ensures read { HasRead (B.device blocks.old) (B.device blocks.new) 2 }
@@ -115,7 +116,7 @@ impl Dict {
     }
 
     /// So many bytes of the records from the place `from` on.
-    fn record<B: Blocks>(
+    pub(crate) fn record<B: Blocks>(
         &self,
         alloc: Global,
         blocks: &mut B,
@@ -124,11 +125,12 @@ impl Dict {
     ) -> Result<Vec<u8>, StoreFault>
         requires stands { Stands self.now (B.device blocks.old).count }
         requires within { from + count ≤ self.now.bytes }
-        ensures read { HasRead (B.device blocks.old) (B.device blocks.new) (count / 4080 + 2) }
+        ensures read { HasRead (B.device blocks.old) (B.device blocks.new) (touched self.now.payload from count) }
         ensures failed { result ≡ Err StoreFault.Blocks
             → Rose (B.device blocks.old).faults (B.device blocks.new).faults }
         ensures found { (image : List ℕ) → Tells (B.device blocks.old).image image
             → IfOk result (λ x. x.items ≡ part_of (record_area self.now) from count image) }
+        ensures full { IfOk result (λ x. length x.items ≡ count) }
         ensures whole { (block : ℕ) → result ≡ Err (StoreFault.Damaged block) → ⊥ }
     {
         match vec![in alloc; 0u8; count as usize] {
@@ -143,8 +145,24 @@ impl Dict {
         }
     }
 
+    /// The term that the record with these bytes spells, which begins at the place `from`.
+    pub(crate) fn decoded(&self, alloc: Global, bytes: &[u8], from: u64) -> Result<Term, StoreFault>
+        requires some { 0 < self.now.payload }
+        requires fits { block_of (record_area self.now) from ≤ u32.MAX }
+        ensures read { Reads (λ t. t) result (or_block (block_of (record_area self.now) from) (term_in bytes.now)) }
+        ensures own { result ≡ Err StoreFault.Blocks → ⊥ }
+    {
+        match term_of(alloc, bytes) {
+            Ok(term) => Ok(term),
+            Err(RecordFault::Memory) => Err(StoreFault::Memory),
+            Err(RecordFault::Form) => Err(StoreFault::Damaged {
+                block: block_of(&self.record_area(), from),
+            }),
+        }
+    }
+
     /// The term of record `k`.
-    pub(crate) fn term_of_record<B: Blocks>(
+    fn term_of_record<B: Blocks>(
         &self,
         alloc: Global,
         blocks: &mut B,
@@ -162,13 +180,7 @@ impl Dict {
     {
         let (from, end) = self.span(blocks, k)?;
         let bytes = self.record(alloc, blocks, from, end - from)?;
-        match term_of(alloc, bytes.as_slice()) {
-            Ok(term) => Ok(term),
-            Err(RecordFault::Memory) => Err(StoreFault::Memory),
-            Err(RecordFault::Form) => Err(StoreFault::Damaged {
-                block: block_of(&self.record_area(), from),
-            }),
-        }
+        self.decoded(alloc, bytes.as_slice(), from)
     }
 
     /// The term of that rank. Memory is taken for the record and for the term.

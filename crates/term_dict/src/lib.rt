@@ -4,6 +4,7 @@
 mod area;
 mod dict;
 mod dict_image;
+mod front;
 mod law;
 mod record;
 mod search;

@@ -27,7 +27,7 @@ fn text_of(alloc: Global, bytes: &[u8]) -> Result<Text, RecordFault>
 
 /// A number of four bytes, and what is behind it.
 #[tactic(auto, unfolding(crate::specs::Records::number_at))]
-fn number_of(bytes: &[u8]) -> Result<(u32, &[u8]), RecordFault>
+pub fn number_of(bytes: &[u8]) -> Result<(u32, &[u8]), RecordFault>
     ensures { Gives (λ x. (x.0, x.1.now)) result (number_at bytes.now) }
 {
     match bytes {
@@ -41,7 +41,7 @@ fn number_of(bytes: &[u8]) -> Result<(u32, &[u8]), RecordFault>
 
 /// So many bytes, and what is behind them.
 #[tactic(auto, unfolding(crate::specs::Records::cut_at))]
-fn cut(count: u32, bytes: &[u8]) -> Result<(&[u8], &[u8]), RecordFault>
+pub fn cut(count: u32, bytes: &[u8]) -> Result<(&[u8], &[u8]), RecordFault>
     ensures { Gives (λ x. (x.0.now, x.1.now)) result (cut_at count bytes.now) }
 {
     if bytes.len() < count as usize {

@@ -122,6 +122,25 @@ fn other_terms_have_no_rank(rt: HostRuntime) -> Result<(), Fail> {
 }
 
 #[test]
+fn a_long_record_is_read_as_far_as_it_decides(rt: HostRuntime) -> Result<(), Fail> {
+    let mut long = String::new(rt.alloc());
+    for _ in 0..40000 {
+        long.push('m')?;
+    }
+    let mut terms = Items::new(rt.alloc());
+    terms.push(literal(rt.alloc(), &long, "d", "")?)?;
+    let made = build(rt.alloc(), terms)?;
+    let (image, dict) = in_blocks(rt.alloc(), &made, 4096)?;
+    for (lexical, most) in [("a", 3), ("mn", 3), (long.as_str(), 11)] {
+        let mut blocks = MemBlocks::new(&image, Vec::new(rt.alloc()));
+        let t = literal(rt.alloc(), lexical, "d", "en")?;
+        assert_eq!(rt; dict.id_of(rt.alloc(), &mut blocks, &t), Ok(None));
+        assert!(rt; blocks.reads() <= most);
+    }
+    Ok(())
+}
+
+#[test]
 fn an_empty_dictionary_has_no_term(rt: HostRuntime) -> Result<(), Fail> {
     let made = build(rt.alloc(), Items::new(rt.alloc()))?;
     let (image, dict) = in_blocks(rt.alloc(), &made, 4096)?;
