@@ -1,5 +1,5 @@
 -- The numbered calls of a form in memory, and which of them fail.
-use Rattle.std.specs.Prelude.{◌≡◌, ℕ, ◌+◌, ◌-◌, ◌^◌, min, ◌⊎◌, Contains, Result, Ok, Err}
+use Rattle.std.specs.Prelude.{◌≡◌, ℕ, zero, suc, ◌+◌, ◌-◌, ◌^◌, min, ◌⊎◌, Contains, Result, Ok, Err}
 use Rattle.std.specs.declared.vec.Vec.{Vec}
 use Rattle.std.specs.declared.alloc.Global.{Global}
 use Rattle.sage_outside.specs.declared.calls.Calls.{Calls}
@@ -45,3 +45,15 @@ abbrev pub FailsByListOrRoom : {T : Type 0} → Calls → Calls → Result T She
 FailsByListOrRoom old new (Ok x) = Passes old new
 FailsByListOrRoom old new (Err Missing) = new ≡ record old { number = counted old.number }
 FailsByListOrRoom old new (Err Failed) = FailsListed old new ⊎ FailsCramped old new
+
+-- the same calls are to fail, counted on from the same number, and none has failed
+pub record IsNumberedOn (calls new : Calls) : Type 0 where
+  pub number : new.number ≡ calls.number
+  pub fails : new.fails.items ≡ calls.fails.items
+  pub listed : new.listed ≡ 0
+  pub cramped : new.cramped ≡ 0
+
+-- a fault is counted where the closed file has had one, and nothing else
+abbrev pub ClosesAfter : ℕ → Calls → Calls → Type 0
+ClosesAfter zero old new = new ≡ old
+ClosesAfter (suc faults) old new = new ≡ record old { listed = counted old.listed }

@@ -1,4 +1,6 @@
 pub mod Causes
+pub mod Blocks
+pub mod BlockLaws
 pub mod Shelf
 pub mod Sink
 pub mod Replies

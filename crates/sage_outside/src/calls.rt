@@ -1,6 +1,9 @@
 // The numbered calls of a form in memory.
-ghost use Rattle.std.specs.Prelude.{◌≡◌, ◌↔◌, IsTrue, Contains};
+ghost use Rattle.std.specs.Prelude.{◌≡◌, ◌↔◌, IsTrue, IfOk, Contains, nat_lt};
+ghost use Rattle.sage_outside.specs.Calls.{IsNumberedOn, faults_of};
 ghost use Rattle.sage_outside.specs.Causes.{counted};
+
+use std::alloc::{AllocError, Global};
 
 /// The calls of an object, numbered from 0; those whose numbers stand in a list are to fail. The
 /// counts stand still at 2^64 - 1.
@@ -47,6 +50,25 @@ impl Calls {
         ensures { self.new ≡ record self.old { cramped = counted self.old.cramped } }
     {
         self.cramped = self.cramped.saturating_add(1);
+    }
+
+    /// The same calls are to fail, counted on from the same number, and none has failed.
+    pub fn numbered_on(&self, alloc: Global) -> Result<Calls, AllocError>
+        ensures { IfOk result (λ calls. IsNumberedOn self.now calls) }
+    {
+        Ok(Calls {
+            number: self.number,
+            fails: Vec::from_slice(alloc, &self.fails)?,
+            listed: 0,
+            cramped: 0,
+        })
+    }
+
+    /// Whether a call failed.
+    pub fn has_failed(&self) -> bool
+        ensures { result ≡ nat_lt 0 (faults_of self.now) }
+    {
+        self.listed > 0 || self.cramped > 0
     }
 
     /// How many calls found no room.

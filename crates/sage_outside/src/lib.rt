@@ -1,9 +1,15 @@
 //! What the program reaches outside, as traits with counts of faults, with forms in memory and over std.
 #![tactic(auto)]
 
+#[cfg(test)]
+mod block_tests;
+mod blocks;
+mod blocks_in_memory;
 mod calls;
 mod conn;
 mod door;
+mod fault;
+mod file_blocks;
 mod files_in_memory;
 mod link;
 mod memory;
@@ -13,8 +19,12 @@ mod reply;
 mod shelf;
 mod sink;
 
+pub use blocks::Blocks;
+pub use blocks_in_memory::{MemBlocks, MemStored, NeverBlocks};
 pub use conn::Conn;
 pub use door::Door;
+pub use fault::{ReadFault, StoreFault};
+pub use file_blocks::FileBlocks;
 pub use link::{Link, LinkFault, Memory};
 pub use memory::{MemFile, MemShelf, MemSink};
 pub use nothing::{NeverSink, NoConn, NoDoor, NoLink};

@@ -1,5 +1,5 @@
 // Forms in memory, which fail at the calls of a list.
-ghost use Rattle.std.specs.Prelude.{◌≡◌, ◌≤◌, ◌<◌, ◌++◌, ◌⊎◌, [], ℕ, List, length, MatchResult, IfSome, IfNone, OnOk, OnErr, slice_get};
+ghost use Rattle.std.specs.Prelude.{◌≡◌, ◌≤◌, ◌<◌, ◌++◌, ◌⊎◌, [], ℕ, List, length, MatchResult, IfSome, IfNone, IfOk, OnOk, OnErr, slice_get};
 ghost use Rattle.std.specs.FinMap as map;
 ghost use Rattle.std.specs.Io.{ReadsAtMost};
 ghost use Rattle.sage_outside.specs.Shelf.{HasCause, FindsIn, FillsFrom, Started, Grown};
@@ -7,7 +7,7 @@ ghost use Rattle.sage_outside.specs.Sink.{Puts, HasSinkCause};
 
 use crate::calls::Calls;
 use crate::files_in_memory::{clear, extend, fill, find, place};
-use crate::{Failed, Shelf, ShelfFault, Sink};
+use crate::{Failed, MemStored, Shelf, ShelfFault, Sink};
 use std::alloc::Global;
 
 /// A sink in memory. A call of it fails exactly where its number is in a list or it finds no room.
@@ -89,7 +89,8 @@ pub struct MemFile {
 }
 
 /// Files in memory. A call that does not answer `Missing` fails exactly where its number is in a
-/// list or, in `start` and `append`, it finds no room.
+/// list or, in `start`, `append` and `open`, it finds no room. `close` cannot fail and has no
+/// number, and the reads of an opened file are numbered apart.
 #[derive(Debug, Drop)]
 pub struct MemShelf {
     alloc: Global,
@@ -127,8 +128,12 @@ impl MemShelf {
 
 impl Shelf for MemShelf {
     ghost use Rattle.std.specs.Prelude.{Some};
-    ghost use Rattle.sage_outside.specs.Calls.{FailsByList, FailsByListOrRoom};
-    ghost use Rattle.sage_outside.specs.Held.{shelf_files, shelf_calls, shelf_faults};
+    ghost use Rattle.sage_outside.specs.Causes.{Rose};
+    ghost use Rattle.sage_outside.specs.Blocks.{IsUnread, image_of};
+    ghost use Rattle.sage_outside.specs.Calls.{FailsByList, FailsByListOrRoom, IsNumberedOn, ClosesAfter};
+    ghost use Rattle.sage_outside.specs.Held.{shelf_files, shelf_calls, shelf_faults, stored_device, stored_calls};
+
+    type File = MemStored;
 
     ghost files = { λ shelf. Some (shelf_files shelf) };
 
@@ -213,6 +218,43 @@ impl Shelf for MemShelf {
                 self.calls.cramp();
                 Err(ShelfFault::Failed)
             }
+        }
+    }
+
+    fn open(&mut self, name: &str) -> Result<MemStored, ShelfFault>
+        ensures cause { HasCause (Some (shelf_files self.old)) name.now
+            (shelf_faults self.old) (shelf_faults self.new) result }
+        ensures unread { IfOk result (λ file. IsUnread (stored_device file)) }
+        ensures found { FindsIn (λ bytes file. (stored_device file).image ≡ Some (image_of bytes))
+            (Some (shelf_files self.old)) name.now result }
+        ensures same { shelf_files self.new ≡ shelf_files self.old }
+        ensures by_list { FailsByListOrRoom (shelf_calls self.old) (shelf_calls self.new) result }
+        ensures numbered { IfOk result (λ file. IsNumberedOn (shelf_calls self.new) (stored_calls file)) }
+    {
+        let fails = self.calls.begin();
+        let bytes = find(&self.files, name).ok_or(ShelfFault::Missing)?;
+        if fails {
+            self.calls.refuse();
+            return Err(ShelfFault::Failed);
+        }
+        match MemStored::copy_of(self.alloc, &self.calls, bytes) {
+            Ok(file) => Ok(file),
+            Err(_) => {
+                self.calls.cramp();
+                Err(ShelfFault::Failed)
+            }
+        }
+    }
+
+    fn close(&mut self, file: MemStored)
+        ensures later { shelf_faults self.old ≤ shelf_faults self.new }
+        ensures failed { 0 < (stored_device file).faults → Rose (shelf_faults self.old) (shelf_faults self.new) }
+        ensures kept { (stored_device file).faults ≡ 0 → shelf_faults self.new ≡ shelf_faults self.old }
+        ensures same { shelf_files self.new ≡ shelf_files self.old }
+        ensures counts { ClosesAfter (stored_device file).faults (shelf_calls self.old) (shelf_calls self.new) }
+    {
+        if file.has_failed() {
+            self.calls.refuse();
         }
     }
 }

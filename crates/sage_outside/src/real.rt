@@ -1,9 +1,10 @@
 // Adapters over std's files and writers. They tell nothing of content.
-ghost use Rattle.std.specs.Prelude.{◌≡◌, ◌≤◌, None, IsErr};
+ghost use Rattle.std.specs.Prelude.{◌≡◌, ◌≤◌, None, IsErr, IfOk};
 ghost use Rattle.std.specs.Io.{ReadsAtMost};
 ghost use Rattle.sage_outside.specs.Causes.{Rose};
+ghost use Rattle.sage_outside.specs.Blocks.{IsUnread};
 
-use crate::{Failed, Shelf, ShelfFault, Sink};
+use crate::{Blocks, Failed, FileBlocks, Shelf, ShelfFault, Sink};
 use std::alloc::Global;
 use std::fs::{OpenFile, OpenOptions};
 use std::io::{ErrorKind, Read, Seek, SeekFrom, Write};
@@ -89,6 +90,14 @@ impl<R: Files + Drop> FileShelf<R> {
         Ok(size)
     }
 
+    fn blocks_of(&self, name: &str) -> io::Result<FileBlocks<R::File>>
+        ensures unread { IfOk result (λ file. IsUnread (⟦<FileBlocks<R::File> as Blocks>⟧.device file)) }
+    {
+        let file = fs::open(&self.rt, name)?;
+        let size = file.metadata()?.len();
+        Ok(FileBlocks::new(file, size))
+    }
+
     fn read_from(&mut self, name: &str, at: u64, buf: &mut [u8]) -> io::Result<usize>
         ensures bound { ReadsAtMost result buf.new }
         ensures same { self.new.faults ≡ self.old.faults }
@@ -105,6 +114,8 @@ impl<R: Files + Drop> FileShelf<R> {
 }
 
 impl<R: Files + Drop> Shelf for FileShelf<R> {
+    type File = FileBlocks<R::File>;
+
     ghost files = { λ _. None };
 
     ghost faults = { λ shelf. shelf.faults };
@@ -139,6 +150,19 @@ impl<R: Files + Drop> Shelf for FileShelf<R> {
         match append_to(&self.rt, name, piece) {
             Ok(()) => Ok(()),
             Err(error) => Err(self.refuse(&error)),
+        }
+    }
+
+    fn open(&mut self, name: &str) -> Result<FileBlocks<R::File>, ShelfFault> {
+        match self.blocks_of(name) {
+            Ok(file) => Ok(file),
+            Err(error) => Err(self.refuse(&error)),
+        }
+    }
+
+    fn close(&mut self, file: FileBlocks<R::File>) {
+        if file.has_failed() {
+            self.fail();
         }
     }
 }

@@ -1,7 +1,11 @@
 // Named files.
-ghost use Rattle.std.specs.Prelude.{◌≡◌, ◌<◌, ℕ, Option, length};
+ghost use Rattle.std.specs.Prelude.{◌≡◌, ◌<◌, ◌≤◌, ℕ, Option, Some, IfOk, length};
 ghost use Rattle.std.specs.Io.{ReadsAtMost};
+ghost use Rattle.sage_outside.specs.Causes.{Rose};
+ghost use Rattle.sage_outside.specs.Blocks.{IsUnread, image_of};
 ghost use Rattle.sage_outside.specs.Shelf.{Files, HasCause, FindsIn, FillsFrom, Started, Grown};
+
+use crate::Blocks;
 
 /// Why a call of a shelf has no answer.
 #[derive(Clone, Copy, Debug, PartialEq, Eq)]
@@ -15,6 +19,9 @@ pub enum ShelfFault {
 /// Named files, as a folder of a file system has them. A name is its bytes, compared one by one;
 /// places and lengths are in bytes.
 pub trait Shelf {
+    /// An opened file, which owns what it needs.
+    type File: Blocks;
+
     /// The bytes of each name, where the shelf tells. Only `start` and `append` change them.
     ghost files: { Self → Option Files };
 
@@ -53,4 +60,21 @@ pub trait Shelf {
         ensures cause { HasCause (files self.old) name.now (faults self.old) (faults self.new) result }
         ensures found { FindsIn (λ _ _. Unit {0}) (files self.old) name.now result }
         ensures grown { Grown (files self.old) (files self.new) name.now piece.now result };
+
+    /// The file as blocks, with zeros behind its bytes to the end of the last block. It has no
+    /// more than 4,294,967,295 blocks; what stands behind them is left out. No call of it failed
+    /// yet, and no read was counted. `Missing` and `Failed` come as in `size`.
+    fn open(&mut self, name: &str) -> Result<Self::File, ShelfFault>
+        ensures cause { HasCause (files self.old) name.now (faults self.old) (faults self.new) result }
+        ensures unread { IfOk result (λ file. IsUnread (Self.File.device file)) }
+        ensures found { FindsIn (λ bytes file. (Self.File.device file).image ≡ Some (image_of bytes))
+            (files self.old) name.now result }
+        ensures same { files self.new ≡ files self.old };
+
+    /// Takes back an opened file. A fault is counted here exactly where a read of it failed.
+    fn close(&mut self, file: Self::File)
+        ensures later { faults self.old ≤ faults self.new }
+        ensures failed { 0 < (Self.File.device file).faults → Rose (faults self.old) (faults self.new) }
+        ensures kept { (Self.File.device file).faults ≡ 0 → faults self.new ≡ faults self.old }
+        ensures same { files self.new ≡ files self.old };
 }

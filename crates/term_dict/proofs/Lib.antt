@@ -1,0 +1,14 @@
+pub mod Texts
+pub mod Parts
+pub mod Touched
+pub mod Places
+pub mod Answered
+pub mod Held
+pub mod Raw
+pub mod Reading
+pub mod Steps
+pub mod Ranks
+pub mod Layouts
+pub mod Halves
+pub mod Fronts
+pub mod Behind

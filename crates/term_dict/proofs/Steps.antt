@@ -1,0 +1,47 @@
+-- One more term among the places and the records.
+use Rattle.std.proofs.Common.{◌≡◌, ℕ, ◌+◌, ◌<◌, ◌≤◌, ◌++◌, max, List, [], ◌∷◌, length, drop, get_or, Some, sym, ap, subst, ◌∙◌, arith, append_assoc, length-append}
+use Rattle.std.specs.List.{slice_get}
+use Rattle.std.proofs.lemmas.List.{drop_more}
+use Rattle.term_core.specs.declared.term.Term.{Term}
+use Rattle.term_core.specs.declared.term.Term.TheVariants.{Iri, Blank, Literal}
+use Rattle.term_core.specs.Order.{size_of}
+use Rattle.term_dict.specs.Records.{record_of}
+use Rattle.term_dict.specs.Built.{records_of, places_from, longest_of, IsText}
+use Rattle.term_dict.proofs.Held.{by_last}
+
+-- a record has at most nine bytes beside its texts
+pub record_short : (t : Term) → size_of t ≤ 262144 → length (record_of t) ≤ 262153
+record_short (Blank label) h = omega arith
+record_short (Iri iri) h = omega arith
+record_short (Literal lexical datatype lang) h = omega (arith, length-append {A = ℕ})
+
+-- one more byte
+pub bytes_more : (bytes old now new all : List ℕ) (i b : ℕ) → i < length bytes → b ≡ get_or bytes i b → new ≡ now ++ b ∷ [] → now ++ drop i bytes ≡ all → new ++ drop (i + 1) bytes ≡ all
+bytes_more bytes old now new all i b lt is e h =
+    let here : drop i bytes ≡ b ∷ drop (i + 1) bytes = drop_more bytes i b lt ∙ ap (λ c. c ∷ drop (i + 1) bytes) (sym is) in
+    ap (λ l. l ++ drop (i + 1) bytes) e ∙ append_assoc now (b ∷ []) (drop (i + 1) bytes) ∙ (sym (ap (λ l. now ++ l) here) ∙ h)
+
+module _ (ts : List Term) (i : ℕ) (t : Term) (lt : i < length ts) (is : t ≡ get_or ts i t) where
+  here : drop i ts ≡ t ∷ drop (i + 1) ts
+  here = drop_more ts i t lt ∙ ap (λ u. u ∷ drop (i + 1) ts) (sym is)
+
+  pub records_more : (old new all : List ℕ) → new ≡ old ++ record_of t → old ++ records_of (drop i ts) ≡ all → new ++ records_of (drop (i + 1) ts) ≡ all
+  records_more old new all e h = ap (λ l. l ++ records_of (drop (i + 1) ts)) e ∙ append_assoc old (record_of t) (records_of (drop (i + 1) ts)) ∙ (sym (ap (λ l. old ++ records_of l) here) ∙ h)
+
+  pub places_more : (old new all : List ℕ) (n m : ℕ) → new ≡ old ++ n ∷ [] → m ≡ n + length (record_of t) → old ++ places_from n (drop i ts) ≡ all → new ++ places_from m (drop (i + 1) ts) ≡ all
+  places_more old new all n m e f h =
+      let rest = places_from (n + length (record_of t)) (drop (i + 1) ts) in
+      ap (λ l. l ++ places_from m (drop (i + 1) ts)) e ∙ ap (λ k. (old ++ n ∷ []) ++ places_from k (drop (i + 1) ts)) f ∙ append_assoc old (n ∷ []) rest ∙ (sym (ap (λ l. old ++ places_from n l) here) ∙ h)
+
+  pub longest_more : (old new all : ℕ) → new ≡ max old (length (record_of t)) → max old (longest_of (drop i ts)) ≡ all → max new (longest_of (drop (i + 1) ts)) ≡ all
+  longest_more old new all e h =
+      let f : longest_of (drop i ts) ≡ max (length (record_of t)) (longest_of (drop (i + 1) ts)) = ap longest_of here in
+      omega arith
+
+-- the terms before a place, and the term there
+pub texts_more : (ts : List Term) (i : ℕ) (t : Term) → slice_get ts i ≡ Some t → IsText t
+    → ((k : ℕ) (u : Term) → k < i → slice_get ts k ≡ Some u → IsText u) → (k : ℕ) (u : Term) → k < i + 1 → slice_get ts k ≡ Some u → IsText u
+texts_more ts i t at is before k u lt at_k =
+    by_last (IsText u) k i (omega arith)
+    (λ e. let same : t ≡ u = (let f : slice_get ts k ≡ slice_get ts i = ap (slice_get ts) e in cc) in subst IsText same is)
+    (λ lower. before k u lower at_k)

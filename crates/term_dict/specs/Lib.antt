@@ -1,0 +1,6 @@
+pub mod Areas
+pub mod Records
+pub mod Layout
+pub mod Ranks
+pub mod Built
+pub mod Fronts

@@ -1,0 +1,16 @@
+//! A dictionary of terms over blocks: each term by its rank in the order, and the rank of a term.
+#![tactic(auto)]
+
+mod area;
+mod dict;
+mod dict_image;
+mod front;
+mod law;
+mod record;
+mod search;
+#[cfg(test)]
+mod tests;
+
+pub use dict::Dict;
+pub use dict_image::{DictImage, build};
+pub use law::{laid_out_images_hold, places_are_ranks, records_are_read};
