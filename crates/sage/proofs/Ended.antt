@@ -8,20 +8,20 @@ use Rattle.sage.specs.declared.file.FileFault.TheVariants as faults
 use Rattle.sage.specs.Files.{WhyUnread}
 use Rattle.term_core.specs.declared.term.Triple.{Triple}
 use Rattle.sage_outside.specs.Sink.{Puts, HasSinkCause}
-use Rattle.sage.specs.Data.{IsData}
+use Rattle.sage.specs.Data.{IsData, IsRefused}
 use Rattle.sage.specs.declared.words.Command.{Command}
 use Rattle.sage.specs.declared.words.Command.TheVariants.{Try}
 use Rattle.sage.specs.Words.{command_of}
-use Rattle.sage.specs.Outcome.{Answers, NoData, NoQuery, HasGot, HasGotFront, IsTold, TellsBoth, OfCommand, UnderCommand}
+use Rattle.sage.specs.Outcome.{Answers, NoQuery, HasGot, HasGotFront, IsTold, TellsBoth, OfCommand, UnderCommand}
 use Rattle.sage.specs.Refusals.{NamesFile, WhyNotRead, IsUnread, ReadsQuery, Answered, WhyEnded}
-use Rattle.sage.proofs.Limits.{answers_back, no_data_back, some_data_back, no_query_back}
+use Rattle.sage.proofs.Limits.{answers_back, refused_back, some_data_back, no_query_back}
 
 -- a file's refusal has the file's cause
 pub not_read : (fault : FileFault) (refusal : Refusal) (name : List ℕ) (files : Option Files) (before now : ℕ) → NamesFile fault name refusal → WhyUnread fault files name before now → WhyNotRead refusal name files before now
 not_read faults.Memory refusal name files before now is why = subst (λ r. WhyNotRead r name files before now) (sym is) tt
 not_read faults.File refusals.Memory name files before now is why = tt
 not_read faults.File (refusals.File other) name files before now is why = (is, why)
-not_read faults.File refusals.Data name files before now is why = absurd is
+not_read faults.File (refusals.Data fault) name files before now is why = absurd is
 not_read faults.File refusals.Query name files before now is why = absurd is
 not_read faults.File refusals.Output name files before now is why = absurd is
 
@@ -29,7 +29,7 @@ pub unread : (T : Type 0) (fault : FileFault) (refusal : Refusal) (name : List �
 unread T faults.Memory refusal name is = subst (λ r. IsUnread {T = T} (Err r)) (sym is) tt
 unread T faults.File refusals.Memory name is = tt
 unread T faults.File (refusals.File other) name is = tt
-unread T faults.File refusals.Data name is = absurd is
+unread T faults.File (refusals.Data fault) name is = absurd is
 unread T faults.File refusals.Query name is = absurd is
 unread T faults.File refusals.Output name is = absurd is
 
@@ -54,7 +54,7 @@ module _ (document_name query_name quanta : List ℕ) (files : Option Files) (re
   pub not_answered : (e : Refusal) (before now : ℕ) (written : Option (List ℕ)) (out_faults : ℕ) → Answered (Err e) read_document read_query quanta → WhyEnded e document_name query_name quanta files before now written written out_faults out_faults
   not_answered refusals.Memory before now written out_faults h = tt
   not_answered (refusals.File name) before now written out_faults h = absurd h
-  not_answered refusals.Data before now written out_faults h = record { none = λ document query told. no_data_back document (subst NoData (whole document query told).0 h) }
+  not_answered (refusals.Data fault) before now written out_faults h = λ document query told. refused_back document fault (subst (λ d. IsRefused d fault) (whole document query told).0 h)
   not_answered refusals.Query before now written out_faults h = record {
     some_data = λ document query told. some_data_back document (subst (λ d. (triples : List Triple) × IsData d triples) (whole document query told).0 h.0);
     none = λ document query told. no_query_back query (subst NoQuery (whole document query told).1 h.1);
@@ -82,6 +82,6 @@ told_counts old new piece err before now is h = subst (λ p. IsTold old new p be
 pub not_selected : (e : Refusal) (document query quanta : List ℕ) (triples : List Triple) → IsData document triples → ReadsQuery (Err e) query → Answered (Err e) document query quanta
 not_selected refusals.Memory document query quanta triples is_data h = tt
 not_selected refusals.Query document query quanta triples is_data h = ((triples, is_data), h)
-not_selected refusals.Data document query quanta triples is_data h = absurd h
+not_selected (refusals.Data fault) document query quanta triples is_data h = absurd h
 not_selected (refusals.File name) document query quanta triples is_data h = absurd h
 not_selected refusals.Output document query quanta triples is_data h = absurd h

@@ -3,6 +3,7 @@ use Rattle.std.proofs.Common.{◌≡◌, ◌⊎◌, ℕ, List, Option, Some, inl
 use Rattle.sage_outside.specs.Causes.{Rose}
 use Rattle.sage_outside.specs.Shelf.{Files, Lacks}
 use Rattle.sage.specs.Told.{Tells}
+use Rattle.sage.proofs.Limits.{refused_none}
 use Rattle.sage.specs.Outcome.{TellsBoth, IsTryDone, WhyTryFile, WhyTryData, WhyTryQuery, WhyTryOutput, RefusesData, RefusesQuery, IsComplete}
 
 -- a file that the shelf tells is not lacking
@@ -20,7 +21,7 @@ module _ (document_name query_name quanta : List ℕ) (files : Option Files) (be
     (statuses : Statuses status)
     (done : status ≡ 0 → IsTryDone document_name query_name quanta files out_old out_new err_old err_new err_before err_now)
     (file : status ≡ 3 → WhyTryFile document_name query_name files before now err_old err_new err_before err_now)
-    (no_data : status ≡ 4 → WhyTryData document_name query_name files)
+    (no_data : status ≡ 4 → WhyTryData document_name query_name files err_old err_new err_before err_now)
     (no_query : status ≡ 6 → WhyTryQuery document_name query_name files)
     (output : status ≡ 9 → WhyTryOutput document_name query_name quanta files out_old out_new out_before out_now) where
   not_file : (document query : List ℕ) → TellsBoth files document_name query_name document query → (Rose before now → ⊥) → status ≡ 3 → ⊥
@@ -48,7 +49,7 @@ module _ (document_name query_name quanta : List ℕ) (files : Option Files) (be
           | inl is ↦ absurd (let a = (done is).answered document query told in none a.2.names a.2.pattern a.2.is_query)
           | inr (inl is) ↦ inr is
           | inr (inr (inl is)) ↦ absurd (not_file document query told still is)
-          | inr (inr (inr (inl is))) ↦ absurd ((no_data is).none document query told triples is_data)
+          | inr (inr (inr (inl is))) ↦ absurd (refused_none document (no_data is).fault ((no_data is).refused document query told) triples is_data)
           | inr (inr (inr (inr (inl is)))) ↦ inl is
           | inr (inr (inr (inr (inr is)))) ↦ absurd (let a = (output is).front document query told in none a.2.names a.2.pattern a.2.is_query)
         ]);
@@ -61,7 +62,7 @@ module _ (document_name query_name quanta : List ℕ) (files : Option Files) (be
           | inl is ↦ inl is
           | inr (inl is) ↦ inr is
           | inr (inr (inl is)) ↦ absurd (not_file document query told still is)
-          | inr (inr (inr (inl is))) ↦ absurd ((no_data is).none document query told triples is_data)
+          | inr (inr (inr (inl is))) ↦ absurd (refused_none document (no_data is).fault ((no_data is).refused document query told) triples is_data)
           | inr (inr (inr (inr (inl is)))) ↦ absurd ((no_query is).none document query told names pattern is_query)
           | inr (inr (inr (inr (inr is)))) ↦ absurd (out_still (output is).rose)
         ]);

@@ -5,7 +5,11 @@ use Rattle.std.proofs.lemmas.List.{take_min, length-take}
 use Rattle.term_core.specs.declared.term.Triple.{Triple}
 use Rattle.term_core.specs.declared.pattern.Pattern.{Pattern}
 use Rattle.term_core.specs.Mappings.{Name}
-use Rattle.sage.specs.Data.{IsData}
+use Rattle.sage.specs.Data.{IsData, IsRefused}
+use Rattle.nt_text.specs.declared.fault.DataFault.{DataFault}
+use Rattle.nt_text.specs.declared.fault.DataFault.TheVariants as data_faults
+use Rattle.nt_text.specs.Faults.{WhyRefused, IsNotUtf8, IsRefusedAt, IsBad, HasLongTerm, IsOneTooMany}
+use Rattle.nt_text.proofs.Judged.{no_both}
 use Rattle.pattern_query.specs.Query.{IsQuery}
 use Rattle.sage.specs.Outcome.{Answers, NoData, NoQuery}
 
@@ -23,9 +27,6 @@ kept_whole n file short = within (n + 1) file (omega (arith, short))
 data_back : (file : List ℕ) (triples : List Triple) → IsData (take 268435457 file) triples → IsData file triples
 data_back file triples h = subst (λ bytes. IsData bytes triples) (kept 268435456 file h.limits.bytes_fit) h
 
-data_on : (file : List ℕ) (triples : List Triple) → IsData file triples → IsData (take 268435457 file) triples
-data_on file triples h = subst (λ bytes. IsData bytes triples) (sym (kept_whole 268435456 file h.limits.bytes_fit)) h
-
 query_back : (text : List ℕ) (names : List Name) (pattern : Pattern) → IsQuery (take 262145 text) names pattern → IsQuery text names pattern
 query_back text names pattern h = subst (λ bytes. IsQuery bytes names pattern) (kept 262144 text h.short) h
 
@@ -42,8 +43,21 @@ answers_back document query quanta out err h = record {
   over = h.over;
 }
 
-pub no_data_back : (document : List ℕ) → NoData (take 268435457 document) → NoData document
-no_data_back document none triples h = none triples (data_on document triples h)
+-- a cause of what was read is one of the whole file
+why_back : (file : List ℕ) (fault : DataFault) → WhyRefused (take 268435457 file) fault → WhyRefused file fault
+why_back file data_faults.TooLong h = omega (arith, h, length-take 268435457 file)
+why_back file (data_faults.NotUtf8 place) h = subst (λ bytes. IsNotUtf8 bytes place) (kept 268435456 file h.fits) h
+why_back file (data_faults.BadLine n) h = subst (λ bytes. IsRefusedAt bytes n IsBad) (kept 268435456 file h.fits) h
+why_back file (data_faults.TermTooLong n) h = subst (λ bytes. IsRefusedAt bytes n HasLongTerm) (kept 268435456 file h.fits) h
+why_back file (data_faults.TooMany n) h = subst (λ bytes. IsRefusedAt bytes n IsOneTooMany) (kept 268435456 file h.fits) h
+why_back file data_faults.Memory h = tt
+
+pub refused_back : (file : List ℕ) (fault : DataFault) → IsRefused (take 268435457 file) fault → IsRefused file fault
+refused_back file fault h = record { why = why_back file fault h.why; named = h.named }
+
+-- bytes that are refused are no data
+pub refused_none : (file : List ℕ) (fault : DataFault) → IsRefused file fault → NoData file
+refused_none file fault h triples is_data = no_both file triples fault h.named is_data.document is_data.limits h.why
 
 pub some_data_back : (document : List ℕ) → (triples : List Triple) × IsData (take 268435457 document) triples → (triples : List Triple) × IsData document triples
 some_data_back document some = (some.0, data_back document some.0 some.1)

@@ -1,10 +1,28 @@
--- The data that the bytes of a file are.
-use Rattle.std.specs.Prelude.{ℕ, List}
+-- The data that the bytes of a file are, or why they are none.
+use Rattle.std.specs.Prelude.{◌≢◌, ◌++◌, ℕ, List, codes}
+use Rattle.std.specs.Fmt.{decimal}
 use Rattle.term_core.specs.declared.term.Triple.{Triple}
 use Rattle.nt_text.specs.Grammar.{IsDocument}
 use Rattle.nt_text.specs.Limits.{IsWithinLimits}
+use Rattle.nt_text.specs.Faults.{WhyRefused}
+use Rattle.nt_text.specs.declared.fault.DataFault.{DataFault}
+use Rattle.nt_text.specs.declared.fault.DataFault.TheVariants as data_faults
 
 -- the bytes are a document within the limits, with these triples
 pub record IsData (bytes : List ℕ) (triples : List Triple) : Type 0 where
   pub document : IsDocument bytes triples
   pub limits : IsWithinLimits bytes triples
+
+-- the bytes are none, and this is the first cause
+pub record IsRefused (bytes : List ℕ) (fault : DataFault) : Type 0 where
+  pub why : WhyRefused bytes fault
+  pub named : fault ≢ data_faults.Memory
+
+-- the message that names the cause; places are counted in bytes from 0, lines from 1
+abbrev pub data_message : DataFault → List ℕ
+data_message data_faults.TooLong = codes "sage: data too long\n"
+data_message (data_faults.NotUtf8 place) = codes "sage: data not utf-8 at " ++ (decimal place ++ codes "\n")
+data_message (data_faults.BadLine line) = codes "sage: data line " ++ (decimal line ++ codes "\n")
+data_message (data_faults.TermTooLong line) = codes "sage: data line " ++ (decimal line ++ codes " term\n")
+data_message (data_faults.TooMany line) = codes "sage: data line " ++ (decimal line ++ codes " too many\n")
+data_message data_faults.Memory = codes "sage: memory\n"

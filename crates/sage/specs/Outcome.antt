@@ -13,7 +13,8 @@ use Rattle.sage.specs.declared.words.Command.{Command}
 use Rattle.sage.specs.declared.words.Command.TheVariants.{Try}
 use Rattle.sage.specs.Words.{command_of}
 use Rattle.sage.specs.Told.{Tells}
-use Rattle.sage.specs.Data.{IsData}
+use Rattle.nt_text.specs.declared.fault.DataFault.{DataFault}
+use Rattle.sage.specs.Data.{IsData, IsRefused, data_message}
 use Rattle.pattern_query.specs.Query.{IsQuery}
 use Rattle.pattern_page.specs.Part.{part_text, part_plan}
 use Rattle.pattern_page.specs.Results.{tsv_of, counts_text}
@@ -66,11 +67,10 @@ HasGotFront (Some old) new text = (n : ℕ) × (new ≡ Some (old ++ take n text
 abbrev pub IsTold : Option (List ℕ) → Option (List ℕ) → List ℕ → ℕ → ℕ → Type 0
 IsTold old new text before now = HasGot old new text ⊎ (Rose before now × HasGotFront old new text)
 
--- the message of a status that names no file
+-- the message of a status that names nothing
 abbrev pub message_of : ℕ → List ℕ
 message_of status =
-    if status == 1 then codes "sage: memory\n" else if status == 2 then codes "sage: words\n" else if status == 4 then codes "sage: data\n"
-    else if status == 6 then codes "sage: query form\n" else codes "sage: output\n"
+    if status == 1 then codes "sage: memory\n" else if status == 2 then codes "sage: words\n" else if status == 6 then codes "sage: query form\n" else codes "sage: output\n"
 
 abbrev pub file_message : List ℕ → List ℕ
 file_message name = codes "sage: file " ++ (name ++ 10 ∷ [])
@@ -87,9 +87,11 @@ pub record WhyTryFile (document_name query_name : List ℕ) (files : Option File
   pub cause : Lacks files name ⊎ Rose before now
   pub message : IsTold err_old err_new (file_message name) err_before err_now
 
--- The document is refused: over told files, it is none within the limits.
-pub record WhyTryData (document_name query_name : List ℕ) (files : Option Files) : Type 0 where
-  pub none : (document query : List ℕ) → TellsBoth files document_name query_name document query → NoData document
+-- The document is refused: over told files, this is the first cause, and the message says which.
+pub record WhyTryData (document_name query_name : List ℕ) (files : Option Files) (err_old err_new : Option (List ℕ)) (err_before err_now : ℕ) : Type 0 where
+  pub fault : DataFault
+  pub refused : (document query : List ℕ) → TellsBoth files document_name query_name document query → IsRefused document fault
+  pub message : IsTold err_old err_new (data_message fault) err_before err_now
 
 -- The query is refused: over told files, the document is one within the limits and the query is none.
 pub record WhyTryQuery (document_name query_name : List ℕ) (files : Option Files) : Type 0 where

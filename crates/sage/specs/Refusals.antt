@@ -11,14 +11,14 @@ use Rattle.sage.specs.declared.file.FileFault.TheVariants as faults
 use Rattle.pattern_query.specs.declared.query.SelectQuery.{SelectQuery}
 use Rattle.plan_tree.specs.Laws.{AreVariables}
 use Rattle.pattern_query.specs.Query.{IsQuery}
-use Rattle.sage.specs.Data.{IsData}
-use Rattle.sage.specs.Outcome.{Answers, NoData, NoQuery, HasGot, TellsBoth, WhyTryData, WhyTryQuery, WhyTryOutput}
+use Rattle.sage.specs.Data.{IsData, IsRefused}
+use Rattle.sage.specs.Outcome.{Answers, NoQuery, HasGot, TellsBoth, WhyTryQuery, WhyTryOutput}
 
 -- what the bytes of a document give: its triples, or that it is none within the limits
 abbrev pub ReadsData : Result (List Triple) Refusal → List ℕ → Type 0
 ReadsData (Ok triples) document = IsData document triples
 ReadsData (Err refusals.Memory) document = Unit {0}
-ReadsData (Err refusals.Data) document = NoData document
+ReadsData (Err (refusals.Data fault)) document = IsRefused document fault
 ReadsData (Err refusals.Query) document = ⊥
 ReadsData (Err (refusals.File name)) document = ⊥
 ReadsData (Err refusals.Output) document = ⊥
@@ -33,7 +33,7 @@ abbrev pub ReadsQuery : Result SelectQuery Refusal → List ℕ → Type 0
 ReadsQuery (Ok select) query = Selects query select
 ReadsQuery (Err refusals.Memory) query = Unit {0}
 ReadsQuery (Err refusals.Query) query = NoQuery query
-ReadsQuery (Err refusals.Data) query = ⊥
+ReadsQuery (Err (refusals.Data fault)) query = ⊥
 ReadsQuery (Err (refusals.File name)) query = ⊥
 ReadsQuery (Err refusals.Output) query = ⊥
 
@@ -41,7 +41,7 @@ ReadsQuery (Err refusals.Output) query = ⊥
 abbrev pub Answered : Result Answer Refusal → List ℕ → List ℕ → List ℕ → Type 0
 Answered (Ok answer) document query quanta = Answers document query quanta answer.text.items (string_bytes answer.counts)
 Answered (Err refusals.Memory) document query quanta = Unit {0}
-Answered (Err refusals.Data) document query quanta = NoData document
+Answered (Err (refusals.Data fault)) document query quanta = IsRefused document fault
 Answered (Err refusals.Query) document query quanta = ((triples : List Triple) × IsData document triples) × NoQuery query
 Answered (Err (refusals.File name)) document query quanta = ⊥
 Answered (Err refusals.Output) document query quanta = ⊥
@@ -51,7 +51,7 @@ abbrev pub NamesFile : FileFault → List ℕ → Refusal → Type 0
 NamesFile faults.Memory name refusal = refusal ≡ refusals.Memory
 NamesFile faults.File name refusals.Memory = Unit {0}
 NamesFile faults.File name (refusals.File other) = other ≡ name
-NamesFile faults.File name refusals.Data = ⊥
+NamesFile faults.File name (refusals.Data fault) = ⊥
 NamesFile faults.File name refusals.Query = ⊥
 NamesFile faults.File name refusals.Output = ⊥
 
@@ -59,7 +59,7 @@ NamesFile faults.File name refusals.Output = ⊥
 abbrev pub WhyNotRead : Refusal → List ℕ → Option Files → ℕ → ℕ → Type 0
 WhyNotRead refusals.Memory name files before now = Unit {0}
 WhyNotRead (refusals.File other) name files before now = (other ≡ name) × (Lacks files name ⊎ Rose before now)
-WhyNotRead refusals.Data name files before now = ⊥
+WhyNotRead (refusals.Data fault) name files before now = ⊥
 WhyNotRead refusals.Query name files before now = ⊥
 WhyNotRead refusals.Output name files before now = ⊥
 
@@ -68,7 +68,7 @@ abbrev pub IsUnread : {T : Type 0} → Result T Refusal → Type 0
 IsUnread (Ok x) = ⊥
 IsUnread (Err refusals.Memory) = Unit {0}
 IsUnread (Err (refusals.File name)) = Unit {0}
-IsUnread (Err refusals.Data) = ⊥
+IsUnread (Err (refusals.Data fault)) = ⊥
 IsUnread (Err refusals.Query) = ⊥
 IsUnread (Err refusals.Output) = ⊥
 
@@ -77,7 +77,7 @@ abbrev pub WhyOneNotRead : Refusal → List ℕ → List ℕ → Option Files �
 WhyOneNotRead refusals.Memory document_name query_name files before now = Unit {0}
 WhyOneNotRead (refusals.File name) document_name query_name files before now =
     ((name ≡ document_name) ⊎ (name ≡ query_name)) × (Lacks files name ⊎ Rose before now)
-WhyOneNotRead refusals.Data document_name query_name files before now = ⊥
+WhyOneNotRead (refusals.Data fault) document_name query_name files before now = ⊥
 WhyOneNotRead refusals.Query document_name query_name files before now = ⊥
 WhyOneNotRead refusals.Output document_name query_name files before now = ⊥
 
@@ -92,7 +92,7 @@ abbrev pub WhyEnded : Refusal → List ℕ → List ℕ → List ℕ → Option 
 WhyEnded refusals.Memory document_name query_name quanta files before now out_old out_new out_before out_now = Unit {0}
 WhyEnded (refusals.File name) document_name query_name quanta files before now out_old out_new out_before out_now =
     ((name ≡ document_name) ⊎ (name ≡ query_name)) × (Lacks files name ⊎ Rose before now)
-WhyEnded refusals.Data document_name query_name quanta files before now out_old out_new out_before out_now = WhyTryData document_name query_name files
+WhyEnded (refusals.Data fault) document_name query_name quanta files before now out_old out_new out_before out_now = (document query : List ℕ) → TellsBoth files document_name query_name document query → IsRefused document fault
 WhyEnded refusals.Query document_name query_name quanta files before now out_old out_new out_before out_now = WhyTryQuery document_name query_name files
 WhyEnded refusals.Output document_name query_name quanta files before now out_old out_new out_before out_now =
     WhyTryOutput document_name query_name quanta files out_old out_new out_before out_now

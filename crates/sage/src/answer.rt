@@ -23,8 +23,8 @@ pub enum Refusal {
     Memory,
     /// The named file is not there or could not be read.
     File { name: Text },
-    /// The document is not of the grammar or passes a limit.
-    Data,
+    /// The document is not of the grammar or passes a limit: the first cause.
+    Data { fault: DataFault },
     /// The query is not of the grammar.
     Query,
     /// The output failed.
@@ -45,8 +45,8 @@ fn read_data(alloc: Global, document: Vec<u8>) -> Result<Items<Triple>, Refusal>
 {
     match read_document(alloc, &document) {
         Ok(triples) => Ok(triples),
-        Err(DataFault::Form) => Err(Refusal::Data),
         Err(DataFault::Memory) => Err(Refusal::Memory),
+        Err(fault) => Err(Refusal::Data { fault }),
     }
 }
 

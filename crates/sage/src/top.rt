@@ -1,13 +1,15 @@
 // The top call.
-ghost use Rattle.std.specs.Prelude.{◌≡◌, ◌↔◌, ◌⊎◌, ◌≤◌, None, IfOk};
+ghost use Rattle.std.specs.Prelude.{◌≡◌, ◌↔◌, ◌⊎◌, ◌≤◌, None, IfOk, string_bytes};
 ghost use Rattle.sage_outside.specs.Shelf.{Lacks};
 ghost use Rattle.plan_tree.specs.Pages.{AreQuanta};
 ghost use Rattle.sage.specs.Words.{command_of, HasQuanta};
 ghost use Rattle.sage.specs.Outcome.{IsTold, IsTryDone, WhyTryFile, WhyTryData, WhyTryQuery, WhyTryOutput, RefusesData, RefusesQuery, IsComplete, OfCommand, UnderCommand, message_of, file_message as message_of_file};
+ghost use Rattle.sage.specs.Data.{data_message as message_of_data};
 
 use crate::answer::Refusal;
 use crate::words::{Command, WordsFault, read_words};
 use crate::work::try_query;
+use nt_text::DataFault;
 use sage_outside::{Door, Link, Shelf, Sink};
 use std::alloc::Global;
 use term_core::{Memory, Text};
@@ -53,6 +55,35 @@ fn refuse_file<E: Sink>(alloc: Global, err: &mut E, name: &Text) -> u8
     }
 }
 
+/// The message of a document's refusal.
+fn data_message(alloc: Global, fault: DataFault) -> Result<String, Memory>
+    ensures { IfOk result (λ message. string_bytes message ≡ message_of_data fault) }
+{
+    let message = match fault {
+        DataFault::TooLong => format!(in alloc; "sage: data too long\n"),
+        DataFault::NotUtf8 { at } => format!(in alloc; "sage: data not utf-8 at {at}\n"),
+        DataFault::BadLine { line } => format!(in alloc; "sage: data line {line}\n"),
+        DataFault::TermTooLong { line } => format!(in alloc; "sage: data line {line} term\n"),
+        DataFault::TooMany { line } => format!(in alloc; "sage: data line {line} too many\n"),
+        DataFault::Memory => format!(in alloc; "sage: memory\n"),
+    };
+    Ok(message?)
+}
+
+fn refuse_data<E: Sink>(alloc: Global, err: &mut E, fault: DataFault) -> u8
+    ensures statuses { (result ≡ 4) ⊎ (result ≡ 1) }
+    ensures data { result ≡ 4 → IsTold (E.written err.old) (E.written err.new) (message_of_data fault) (E.faults err.old) (E.faults err.new) }
+    ensures memory { result ≡ 1 → IsTold (E.written err.old) (E.written err.new) (message_of 1) (E.faults err.old) (E.faults err.new) }
+{
+    match data_message(alloc, fault) {
+        Ok(message) => {
+            say(err, message.as_bytes());
+            4
+        }
+        Err(_) => refuse(err, b"sage: memory\n", 1),
+    }
+}
+
 /// Runs `try` over the files of these names, and answers the status with its cause.
 fn end_try<S: Shelf, O: Sink, E: Sink>(
     alloc: Global,
@@ -67,13 +98,13 @@ fn end_try<S: Shelf, O: Sink, E: Sink>(
     ensures same { S.files shelf.new ≡ S.files shelf.old }
     ensures done { result ≡ 0 → IsTryDone document.now query.now quanta.now (S.files shelf.old) (O.written out.old) (O.written out.new) (E.written err.old) (E.written err.new) (E.faults err.old) (E.faults err.new) }
     ensures file { result ≡ 3 → WhyTryFile document.now query.now (S.files shelf.old) (S.faults shelf.old) (S.faults shelf.new) (E.written err.old) (E.written err.new) (E.faults err.old) (E.faults err.new) }
-    ensures no_data { result ≡ 4 → WhyTryData document.now query.now (S.files shelf.old) }
+    ensures no_data { result ≡ 4 → WhyTryData document.now query.now (S.files shelf.old) (E.written err.old) (E.written err.new) (E.faults err.old) (E.faults err.new) }
     ensures no_query { result ≡ 6 → WhyTryQuery document.now query.now (S.files shelf.old) }
     ensures output { result ≡ 9 → WhyTryOutput document.now query.now quanta.now (S.files shelf.old) (O.written out.old) (O.written out.new) (O.faults out.old) (O.faults out.new) }
     ensures there { Lacks (S.files shelf.old) document.now ⊎ Lacks (S.files shelf.old) query.now → (result ≡ 3) ⊎ (result ≡ 1) }
     ensures statuses { (result ≡ 0) ⊎ (result ≡ 1) ⊎ (result ≡ 3) ⊎ (result ≡ 4) ⊎ (result ≡ 6) ⊎ (result ≡ 9) }
     ensures unwritten { (result ≡ 0 → ⊥) → (result ≡ 9 → ⊥) → O.written out.new ≡ O.written out.old }
-    ensures message { (result ≡ 0 → ⊥) → (result ≡ 3 → ⊥) → IsTold (E.written err.old) (E.written err.new) (message_of result) (E.faults err.old) (E.faults err.new) }
+    ensures message { (result ≡ 0 → ⊥) → (result ≡ 3 → ⊥) → (result ≡ 4 → ⊥) → IsTold (E.written err.old) (E.written err.new) (message_of result) (E.faults err.old) (E.faults err.new) }
 {
     match try_query(alloc, shelf, out, document, query, quanta) {
         Ok(counts) => {
@@ -82,7 +113,7 @@ fn end_try<S: Shelf, O: Sink, E: Sink>(
         }
         Err(Refusal::Memory) => refuse(err, b"sage: memory\n", 1),
         Err(Refusal::File { name }) => refuse_file(alloc, err, &name),
-        Err(Refusal::Data) => refuse(err, b"sage: data\n", 4),
+        Err(Refusal::Data { fault }) => refuse_data(alloc, err, fault),
         Err(Refusal::Query) => refuse(err, b"sage: query form\n", 6),
         Err(Refusal::Output) => refuse(err, b"sage: output\n", 9),
     }
@@ -102,13 +133,13 @@ fn run_try<S: Shelf, O: Sink, E: Sink>(
     ensures same { S.files shelf.new ≡ S.files shelf.old }
     ensures done { result ≡ 0 → IsTryDone document.now query.now quanta.now (S.files shelf.old) (O.written out.old) (O.written out.new) (E.written err.old) (E.written err.new) (E.faults err.old) (E.faults err.new) }
     ensures file { result ≡ 3 → WhyTryFile document.now query.now (S.files shelf.old) (S.faults shelf.old) (S.faults shelf.new) (E.written err.old) (E.written err.new) (E.faults err.old) (E.faults err.new) }
-    ensures no_data { result ≡ 4 → WhyTryData document.now query.now (S.files shelf.old) }
+    ensures no_data { result ≡ 4 → WhyTryData document.now query.now (S.files shelf.old) (E.written err.old) (E.written err.new) (E.faults err.old) (E.faults err.new) }
     ensures no_query { result ≡ 6 → WhyTryQuery document.now query.now (S.files shelf.old) }
     ensures output { result ≡ 9 → WhyTryOutput document.now query.now quanta.now (S.files shelf.old) (O.written out.old) (O.written out.new) (O.faults out.old) (O.faults out.new) }
     ensures there { Lacks (S.files shelf.old) document.now ⊎ Lacks (S.files shelf.old) query.now → (result ≡ 3) ⊎ (result ≡ 1) }
     ensures statuses { (result ≡ 0) ⊎ (result ≡ 1) ⊎ (result ≡ 3) ⊎ (result ≡ 4) ⊎ (result ≡ 6) ⊎ (result ≡ 9) }
     ensures unwritten { (result ≡ 0 → ⊥) → (result ≡ 9 → ⊥) → O.written out.new ≡ O.written out.old }
-    ensures message { (result ≡ 0 → ⊥) → (result ≡ 3 → ⊥) → IsTold (E.written err.old) (E.written err.new) (message_of result) (E.faults err.old) (E.faults err.new) }
+    ensures message { (result ≡ 0 → ⊥) → (result ≡ 3 → ⊥) → (result ≡ 4 → ⊥) → IsTold (E.written err.old) (E.written err.new) (message_of result) (E.faults err.old) (E.faults err.new) }
     ensures refuses_data { RefusesData document.now query.now (S.files shelf.old) (S.faults shelf.old) (S.faults shelf.new) result }
     ensures refuses_query { RefusesQuery document.now query.now (S.files shelf.old) (S.faults shelf.old) (S.faults shelf.new) result }
     ensures complete { IsComplete document.now query.now (S.files shelf.old) (S.faults shelf.old) (S.faults shelf.new) (O.faults out.old) (O.faults out.new) result }
@@ -129,12 +160,13 @@ fn run_command<S: Shelf, O: Sink, E: Sink>(
     ensures done { result ≡ 0 → OfCommand command.now (λ document query quanta. IsTryDone document query quanta (S.files shelf.old) (O.written out.old) (O.written out.new) (E.written err.old) (E.written err.new) (E.faults err.old) (E.faults err.new)) }
     ensures file { result ≡ 3 → OfCommand command.now (λ document query quanta. WhyTryFile document query (S.files shelf.old) (S.faults shelf.old) (S.faults shelf.new) (E.written err.old) (E.written err.new) (E.faults err.old) (E.faults err.new)) }
     ensures no_file { OfCommand command.now (λ document query quanta. Lacks (S.files shelf.old) document ⊎ Lacks (S.files shelf.old) query → (result ≡ 3) ⊎ (result ≡ 1)) }
-    ensures no_data { result ≡ 4 → OfCommand command.now (λ document query quanta. WhyTryData document query (S.files shelf.old)) }
+    ensures no_data { result ≡ 4 → OfCommand command.now (λ document query quanta. WhyTryData document query (S.files shelf.old)
+        (E.written err.old) (E.written err.new) (E.faults err.old) (E.faults err.new)) }
     ensures no_query { result ≡ 6 → OfCommand command.now (λ document query quanta. WhyTryQuery document query (S.files shelf.old)) }
     ensures output { result ≡ 9 → OfCommand command.now (λ document query quanta. WhyTryOutput document query quanta (S.files shelf.old) (O.written out.old) (O.written out.new) (O.faults out.old) (O.faults out.new)) }
     ensures statuses { (result ≡ 0) ⊎ (result ≡ 1) ⊎ (result ≡ 3) ⊎ (result ≡ 4) ⊎ (result ≡ 6) ⊎ (result ≡ 9) }
     ensures unwritten { (result ≡ 0 → ⊥) → (result ≡ 9 → ⊥) → O.written out.new ≡ O.written out.old }
-    ensures message { (result ≡ 0 → ⊥) → (result ≡ 3 → ⊥) → IsTold (E.written err.old) (E.written err.new) (message_of result) (E.faults err.old) (E.faults err.new) }
+    ensures message { (result ≡ 0 → ⊥) → (result ≡ 3 → ⊥) → (result ≡ 4 → ⊥) → IsTold (E.written err.old) (E.written err.new) (message_of result) (E.faults err.old) (E.faults err.new) }
     ensures refuses_data { OfCommand command.now (λ document query quanta. RefusesData document query (S.files shelf.old) (S.faults shelf.old) (S.faults shelf.new) result) }
     ensures refuses_query { OfCommand command.now (λ document query quanta. RefusesQuery document query (S.files shelf.old) (S.faults shelf.old) (S.faults shelf.new) result) }
     ensures complete { OfCommand command.now (λ document query quanta. IsComplete document query (S.files shelf.old) (S.faults shelf.old) (S.faults shelf.new) (O.faults out.old) (O.faults out.new) result) }
@@ -172,7 +204,8 @@ pub fn run<S: Shelf, L: Link, D: Door, O: Sink, E: Sink>(
         (S.faults shelf.old) (S.faults shelf.new) (E.written err.old) (E.written err.new) (E.faults err.old) (E.faults err.new)) }
     ensures no_file { UnderCommand words.now (λ document query quanta.
         Lacks (S.files shelf.old) document ⊎ Lacks (S.files shelf.old) query → (result ≡ 3) ⊎ (result ≡ 1)) }
-    ensures document { result ≡ 4 → UnderCommand words.now (λ document query quanta. WhyTryData document query (S.files shelf.old)) }
+    ensures document { result ≡ 4 → UnderCommand words.now (λ document query quanta. WhyTryData document query (S.files shelf.old)
+        (E.written err.old) (E.written err.new) (E.faults err.old) (E.faults err.new)) }
     ensures query { result ≡ 6 → UnderCommand words.now (λ document query quanta. WhyTryQuery document query (S.files shelf.old)) }
     ensures output { result ≡ 9 → UnderCommand words.now (λ document query quanta. WhyTryOutput document query quanta (S.files shelf.old)
         (O.written out.old) (O.written out.new) (O.faults out.old) (O.faults out.new)) }
@@ -182,7 +215,7 @@ pub fn run<S: Shelf, L: Link, D: Door, O: Sink, E: Sink>(
         RefusesQuery document query (S.files shelf.old) (S.faults shelf.old) (S.faults shelf.new) result) }
     ensures complete { UnderCommand words.now (λ document query quanta.
         IsComplete document query (S.files shelf.old) (S.faults shelf.old) (S.faults shelf.new) (O.faults out.old) (O.faults out.new) result) }
-    ensures message { (result ≡ 0 → ⊥) → (result ≡ 3 → ⊥) → IsTold (E.written err.old) (E.written err.new) (message_of result) (E.faults err.old) (E.faults err.new) }
+    ensures message { (result ≡ 0 → ⊥) → (result ≡ 3 → ⊥) → (result ≡ 4 → ⊥) → IsTold (E.written err.old) (E.written err.new) (message_of result) (E.faults err.old) (E.faults err.new) }
     ensures unwritten { (result ≡ 0 → ⊥) → (result ≡ 9 → ⊥) → O.written out.new ≡ O.written out.old }
     ensures files { S.files shelf.new ≡ S.files shelf.old }
     ensures link { link.new ≡ link.old }
