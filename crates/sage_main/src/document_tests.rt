@@ -1,6 +1,6 @@
 // Documents, good and bad, each with what the grammar of documents gives.
-use crate::tests::{Unready, run_over};
-use std::alloc::Global;
+use crate::tests::{Unready, expect, run_over};
+use std::alloc::{AllocError, Global};
 use std::process::Abort;
 
 const EVERY: &[u8] = b"SELECT * { ?s ?p ?o }";
@@ -14,12 +14,12 @@ fn reads(rt: &impl Abort, alloc: Global, document: &[u8], triples: usize) -> Res
     Ok(())
 }
 
-/// Asserts that a document is refused.
-fn refuses(rt: &impl Abort, alloc: Global, document: &[u8]) -> Result<(), Unready> {
+/// Asserts that a document is refused, and with which message.
+fn refuses(rt: &impl Abort, alloc: Global, document: &[u8], message: &str) -> Result<(), Unready> {
     let outcome = run_over(alloc, document, EVERY, &["try", "d.nt", "q.rq"], &[])?;
     assert_eq!(rt; outcome.status, 4, "{document:?}");
     assert_eq!(rt; outcome.out.bytes(), b"".as_slice());
-    assert_eq!(rt; outcome.err.bytes(), b"sage: data\n".as_slice());
+    assert_eq!(rt; outcome.err.bytes(), message.as_bytes(), "{document:?}");
     Ok(())
 }
 
@@ -154,118 +154,128 @@ fn iris(rt: HostRuntime) -> Result<(), Unready> {
 }
 
 #[test]
-fn bad_triples(rt: HostRuntime) -> Result<(), Unready> {
-    refuses(&rt, rt.alloc(), b"x")?;
-    refuses(&rt, rt.alloc(), b"<http://e/a>")?;
-    refuses(&rt, rt.alloc(), b"<http://e/a> <http://e/p> <http://e/b>")?;
-    refuses(&rt, rt.alloc(), b"<http://e/a> <http://e/p> .")?;
-    refuses(
+fn blank_nodes_and_literals(rt: HostRuntime) -> Result<(), Unready> {
+    reads(
         &rt,
         rt.alloc(),
-        b"<http://e/a> <http://e/p> <http://e/b> . .",
+        b"_:a <http://e/p> _:b .\n_:a <http://e/p> _:b .",
+        1,
     )?;
-    refuses(
+    reads(
         &rt,
         rt.alloc(),
-        b"<http://e/a> <http://e/p> <http://e/b> . x",
+        b"_:a <a:p> \"x\"@en .\n_:a <a:p> \"x\"@EN .",
+        1,
     )?;
-    refuses(
+    reads(
         &rt,
         rt.alloc(),
-        b"<http://e/a> <http://e/p> <http://e/b> . <http://e/a> <http://e/p> <http://e/b> .",
+        b"_:a <a:p> \"x\"@en .\n_:a <a:p> \"x\" .",
+        2,
     )?;
-    refuses(&rt, rt.alloc(), b"<http://e/a> <http://e/p> <http://e/b> ;")?;
-    Ok(())
-}
-
-#[test]
-fn bad_terms(rt: HostRuntime) -> Result<(), Unready> {
-    refuses(&rt, rt.alloc(), b"\"x\" <http://e/p> <http://e/b> .")?;
-    refuses(&rt, rt.alloc(), b"<http://e/a> \"p\" <http://e/b> .")?;
-    refuses(&rt, rt.alloc(), b"_:a <http://e/p> \"x\" .")?;
-    refuses(&rt, rt.alloc(), b"<http://e/a> <http://e/p> _:b .")?;
-    refuses(&rt, rt.alloc(), b"<http://e/a> <http://e/p> \"x\"@en .")?;
-    refuses(
+    reads(
         &rt,
         rt.alloc(),
-        b"<http://e/a> <http://e/p> \"x\"^^<http://www.w3.org/2001/XMLSchema#string> .",
+        b"_:a <a:p> \"\\u0078\" .\n_:a <a:p> \"x\" .",
+        1,
     )?;
-    refuses(&rt, rt.alloc(), b"<http://e/a> <http://e/p> 1 .")?;
-    refuses(&rt, rt.alloc(), b"<http://e/a> <http://e/p> 'x' .")?;
-    refuses(
+    reads(
         &rt,
         rt.alloc(),
-        b"<http://e/a> <http://e/p> \"\"\"x\"\"\" .",
+        b"_:a <a:p> \"1\"^^<a:t> .\n_:a <a:p> \"1\" .",
+        2,
     )?;
     Ok(())
 }
 
+// The triples of a document with each kind of term, as they are written back in the rows.
 #[test]
-fn bad_strings(rt: HostRuntime) -> Result<(), Unready> {
-    refuses(&rt, rt.alloc(), b"<http://e/a> <http://e/p> \"a\\nb\" .")?;
-    refuses(&rt, rt.alloc(), b"<http://e/\\u0061> <http://e/p> \"x\" .")?;
-    refuses(&rt, rt.alloc(), b"<http://e/a> <http://e/p> \"x .")?;
-    refuses(&rt, rt.alloc(), b"<http://e/a> <http://e/p> \"x\ny\" .")?;
-    refuses(&rt, rt.alloc(), b"<http://e/a> <http://e/p> \"x\ry\" .")?;
-    Ok(())
-}
-
-#[test]
-fn bad_iris(rt: HostRuntime) -> Result<(), Unready> {
-    refuses(&rt, rt.alloc(), b"<e> <http://e/p> \"x\" .")?;
-    refuses(&rt, rt.alloc(), b"<> <http://e/p> \"x\" .")?;
-    refuses(&rt, rt.alloc(), b"<1a:x> <http://e/p> \"x\" .")?;
-    refuses(&rt, rt.alloc(), b"<:x> <http://e/p> \"x\" .")?;
-    refuses(&rt, rt.alloc(), b"<http://e/a b> <http://e/p> \"x\" .")?;
-    Ok(())
-}
-
-#[test]
-fn bad_characters_of_iris(rt: HostRuntime) -> Result<(), Unready> {
-    refuses(&rt, rt.alloc(), b"<http://e/<> <http://e/p> \"x\" .")?;
-    refuses(&rt, rt.alloc(), b"<http://e/\"> <http://e/p> \"x\" .")?;
-    refuses(&rt, rt.alloc(), b"<http://e/{> <http://e/p> \"x\" .")?;
-    refuses(&rt, rt.alloc(), b"<http://e/}> <http://e/p> \"x\" .")?;
-    refuses(&rt, rt.alloc(), b"<http://e/|> <http://e/p> \"x\" .")?;
-    refuses(&rt, rt.alloc(), b"<http://e/^> <http://e/p> \"x\" .")?;
-    refuses(&rt, rt.alloc(), b"<http://e/`> <http://e/p> \"x\" .")?;
-    refuses(&rt, rt.alloc(), b"<http://e/\t> <http://e/p> \"x\" .")?;
-    refuses(&rt, rt.alloc(), b"<http://e/a <http://e/p> \"x\" .")?;
+fn terms_are_written_back(rt: HostRuntime) -> Result<(), Unready> {
+    let document =
+        "_:a.b <http://e/p> \"caf\\u00e9\"@en-GB .\r\n# c\r\n\r\n<http://e/a><http://e/p>\"\\U0001F600\"^^<http://www.w3.org/2001/XMLSchema#string>.";
+    let words = ["try", "d.nt", "q.rq"];
+    let outcome = run_over(rt.alloc(), document.as_bytes(), EVERY, &words, &[])?;
+    expect(
+        &rt,
+        &outcome,
+        0,
+        "?s\t?p\t?o\n_:a.b\t<http://e/p>\t\"caf\u{e9}\"@en-gb\n<http://e/a>\t<http://e/p>\t\"\u{1f600}\"\n",
+        "pages 1 steps 5 longest 0\n",
+    );
     Ok(())
 }
 
 #[test]
 fn bad_lines(rt: HostRuntime) -> Result<(), Unready> {
+    refuses(&rt, rt.alloc(), b"x", "sage: data line 1\n")?;
     refuses(
         &rt,
         rt.alloc(),
-        b"<http://e/a> <http://e/p> <http://e/b> .\nx",
+        b"_:a <a:p> _:b .\n_:a <a:p> \"x\ny\" .",
+        "sage: data line 2\n",
     )?;
     refuses(
         &rt,
         rt.alloc(),
-        b"x\n<http://e/a> <http://e/p> <http://e/b> .",
+        b"\r\n# c\r\r\n<a:s> <a:p> 1 .\nx",
+        "sage: data line 4\n",
     )?;
-    refuses(&rt, rt.alloc(), b"<http://e/a>\xc2\xa0<http://e/p> \"x\" .")?;
     refuses(
         &rt,
         rt.alloc(),
-        b"\xef\xbb\xbf<http://e/a> <http://e/p> <http://e/b> .",
+        b"_:a <a:p> \"\\uD800\" .",
+        "sage: data line 1\n",
     )?;
-    refuses(&rt, rt.alloc(), b";")?;
-    refuses(&rt, rt.alloc(), b"\x0c")?;
+    refuses(
+        &rt,
+        rt.alloc(),
+        b"<http://e/a> <e> \"x\" .",
+        "sage: data line 1\n",
+    )?;
+    refuses(
+        &rt,
+        rt.alloc(),
+        b"_:a <http://e/p> _:a.b. .",
+        "sage: data line 1\n",
+    )?;
+    refuses(
+        &rt,
+        rt.alloc(),
+        b"\xef\xbb\xbf<a:s> <a:p> <a:o> .",
+        "sage: data line 1\n",
+    )?;
     Ok(())
 }
 
 #[test]
 fn bad_utf8(rt: HostRuntime) -> Result<(), Unready> {
-    refuses(&rt, rt.alloc(), b"\xff")?;
-    refuses(&rt, rt.alloc(), b"# \xff")?;
-    refuses(&rt, rt.alloc(), b"<http://e/a> <http://e/p> \"\xc3\" .")?;
+    refuses(&rt, rt.alloc(), b"\xff", "sage: data not utf-8 at 0\n")?;
+    refuses(&rt, rt.alloc(), b"x\n# \xff", "sage: data not utf-8 at 4\n")?;
     refuses(
         &rt,
         rt.alloc(),
-        b"<http://e/a> <http://e/p> \"\xed\xa0\x80\" .",
+        b"_:a <a:p> \"\xc3\xa9\xc3\" .",
+        "sage: data not utf-8 at 13\n",
+    )?;
+    refuses(
+        &rt,
+        rt.alloc(),
+        b"_:a <a:p> \"\xed\xa0\x80\" .",
+        "sage: data not utf-8 at 11\n",
     )?;
     Ok(())
+}
+
+// A subject of 262,144 bytes is the longest.
+#[test]
+fn long_terms(rt: HostRuntime) -> Result<(), Unready> {
+    let mut document = Vec::from_slice(rt.alloc(), b"<a:")?;
+    for _ in 2..262_144 {
+        document.push(b's').map_err(AllocError::from)?;
+    }
+    let mut longer = Vec::from_slice(rt.alloc(), &document)?;
+    document.extend_from_slice(b"> <a:p> <a:o> .")?;
+    longer.extend_from_slice(b"s> <a:p> <a:o> .\nx")?;
+    reads(&rt, rt.alloc(), &document, 1)?;
+    refuses(&rt, rt.alloc(), &longer, "sage: data line 1 term\n")
 }

@@ -178,7 +178,7 @@ fn refusals(rt: HostRuntime) -> Result<(), Unready> {
 fn the_order_of_refusals(rt: HostRuntime) -> Result<(), Unready> {
     let words = ["try", "d.nt", "q.rq"];
     let outcome = run_over(rt.alloc(), b"no triple", b"no query", &words, &[0])?;
-    expect(&rt, &outcome, 4, "", "sage: data\n");
+    expect(&rt, &outcome, 4, "", "sage: data line 1\n");
     let outcome = run_over(rt.alloc(), b"", b"no query", &words, &[0])?;
     expect(&rt, &outcome, 6, "", "sage: query form\n");
     let words = ["try", "d.nt", "none.rq"];
