@@ -1,9 +1,11 @@
 -- What scaling keeps: the order of two numbers, and the value of one.
-use Rattle.std.proofs.Common.{◌≡◌, ℕ, zero, suc, ◌+◌, ◌-◌, ◌*◌, ◌/◌, ◌%◌, ◌^◌, ◌<◌, ◌≤◌, refl, sym, ap, subst, ◌∙◌, arith, Bool, true, false, cond, ◌==◌, ℤ, pos, negsuc, neg_ℤ, ◌*ℤ◌, nat_cmp}
+use Rattle.std.proofs.Common.{◌≡◌, Equal, ◌↔◌, ℕ, zero, suc, ◌+◌, ◌-◌, ◌*◌, ◌/◌, ◌%◌, ◌^◌, ◌<◌, ◌≤◌, refl, sym, ap, subst, ◌∙◌, arith, Bool, true, false, cond, ◌==◌, ℤ, pos, negsuc, neg_ℤ, ◌*ℤ◌, nat_cmp}
 use Rattle.std.proofs.lemmas.Grind.{common_steps}
 use Rattle.std.proofs.Math.Nat.{mul-lt-mul_of_pos_right, mul_assoc, mul_right_comm, pow-suc}
 use Rattle.std.proofs.lemmas.Nat.{pow-add, mul-lt}
 use Rattle.std.specs.Ordering.{int_cmp}
+use Rattle.std.specs.FinMap.{int_cmp-IsAntisymmetric}
+use Rattle.std.proofs.lemmas.Cmp.{int_cmp_total, tied_itself}
 use Rattle.std.specs.Prelude.{Some, None}
 use Rattle.term_core.specs.Numbers.{Number, Decimal, numerator, scale, trimmed, signed, least_decimal}
 use Rattle.xsd_num.proofs.Places.{greater_than_minus, less_from_minus, minus_turns, turned, power_positive}
@@ -61,6 +63,16 @@ order_by_value m n s t h g =
     ∙ ap (λ k. int_cmp k (n *ℤ pos (10 ^ (18 - t)) *ℤ pos (10 ^ (s + t)))) left
     ∙ ap (λ k. int_cmp (m *ℤ pos (10 ^ t) *ℤ pos (10 ^ 18)) k) right
     ∙ scaled_order (m *ℤ pos (10 ^ t)) (n *ℤ pos (10 ^ s)) (10 ^ 18) (power_positive 18)
+
+-- so those tie whose values are equal
+order_ties : (x y : ℤ) → (int_cmp x y ≡ Equal) ↔ (x ≡ y)
+order_ties x y = (int_cmp-IsAntisymmetric x y, λ e. ap (λ z. int_cmp x z) (sym e) ∙ tied_itself int_cmp_total x)
+
+pub ties_by_value : (m n : ℤ) (s t : ℕ) → s ≤ 18 → t ≤ 18
+    → (int_cmp (m *ℤ pos (10 ^ (18 - s))) (n *ℤ pos (10 ^ (18 - t))) ≡ Equal) ↔ (m *ℤ pos (10 ^ t) ≡ n *ℤ pos (10 ^ s))
+ties_by_value m n s t h g =
+    let ties : (int_cmp (m *ℤ pos (10 ^ t)) (n *ℤ pos (10 ^ s)) ≡ Equal) ↔ (m *ℤ pos (10 ^ t) ≡ n *ℤ pos (10 ^ s)) = order_ties (m *ℤ pos (10 ^ t)) (n *ℤ pos (10 ^ s)) in
+    (λ e. ties.0 (sym (order_by_value m n s t h g) ∙ e), λ e. order_by_value m n s t h g ∙ ties.1 e)
 
 tenth_back : (n : ℕ) → (n % 10 == 0) ≡ true → n / 10 * 10 ≡ n
 tenth_back n e = grind (arith, common_steps)

@@ -3,16 +3,19 @@
 ghost use Rattle.std.specs.Prelude.{◌≡◌, ◌↔◌, ◌≤◌, ◌^◌, ◌+◌, ◌+ℤ◌, ◌-ℤ◌, ◌*ℤ◌, pos, max, int_div, Bool, true, List, ℕ, Some, Ok};
 ghost use Rattle.std.specs.Cmp.{IsTotalOrder};
 ghost use Rattle.std.specs.Ordering.{int_cmp};
+ghost use Rattle.std.specs.declared.cmp.Ordering.TheVariants.{Equal};
 ghost use Rattle.term_core.specs.Numbers.{Number, numerator, scale, at_scale, is_kept, is_held};
 ghost use Rattle.term_core.specs.Numbers.{compared, signed, least_decimal, sum, difference, product, quotient};
 ghost use Rattle.term_core.specs.Numbers.{read, lexical, datatype, is_integer, is_decimal, IsInteger, IsDecimal};
 
-/// The order of numbers is total, and it is that of their values, so those alone tie whose values
-/// are equal: `m * 10^-s` and `n * 10^-t` are in the order of `m * 10^t` and `n * 10^s`.
+/// The order of numbers is total, it is that of their values, and those alone tie whose values are
+/// equal: `m * 10^-s` and `n * 10^-t` are in the order of `m * 10^t` and `n * 10^s`.
 pub fn numbers_are_in_order()
     ensures total { IsTotalOrder compared }
     ensures by_value { (a b : Number) → scale a ≤ 18 → scale b ≤ 18 → compared a b
         ≡ int_cmp (numerator a *ℤ pos (10 ^ scale b)) (numerator b *ℤ pos (10 ^ scale a)) }
+    ensures ties { (a b : Number) → scale a ≤ 18 → scale b ≤ 18 → (compared a b ≡ Equal)
+        ↔ (numerator a *ℤ pos (10 ^ scale b) ≡ numerator b *ℤ pos (10 ^ scale a)) }
 {}
 
 /// A number that is kept is read back from its literal.
