@@ -44,6 +44,8 @@ fn listed_reads_fail(rt: HostRuntime) -> Result<(), Fail> {
     assert_eq!(rt; blocks.read_block(0, &mut block), Err(Failed));
     blocks.read_block(0, &mut block)?;
     assert_eq!(rt; blocks.reads(), 3);
+    assert_eq!(rt; ReadFault::from(Failed), ReadFault::Blocks);
+    assert_eq!(rt; StoreFault::from(Failed), StoreFault::Blocks);
     Ok(())
 }
 

@@ -41,6 +41,7 @@ pub record IsLaidOut (d : Dict) (ts : List Term) (image : List ℕ) : Type 0 whe
   pub terms : d.terms ≡ length ts
   pub bytes : length (records_of ts) ≤ d.bytes
   pub fits : d.bytes < 2 ^ 64
-  pub places : take (8 * (length ts + 1)) (area_bytes (place_area d) image) ≡ flat_map (to_be_bytes w64) (places_from 0 ts)
+  pub places : take (8 * (length ts + 1)) (area_bytes (place_area d) image)
+      ≡ flat_map (to_be_bytes w64) (places_from 0 ts)
   pub records : take (length (records_of ts)) (area_bytes (record_area d) image) ≡ records_of ts
   pub each : AreTexts ts

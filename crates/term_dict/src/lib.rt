@@ -6,6 +6,7 @@ mod dict;
 mod dict_image;
 mod front;
 mod law;
+mod order;
 mod record;
 mod search;
 #[cfg(test)]
