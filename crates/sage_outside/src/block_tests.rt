@@ -1,6 +1,7 @@
 // Blocks of bytes in memory, of a shelf's files and of the system's.
 use crate::{
-    Blocks, Failed, FileShelf, MemBlocks, MemFile, MemShelf, NeverBlocks, Shelf, ShelfFault,
+    Blocks, Failed, FileShelf, MemBlocks, MemFile, MemShelf, NeverBlocks, ReadFault, Shelf,
+    ShelfFault, StoreFault,
 };
 use std::fs;
 use std::test::Fail;
