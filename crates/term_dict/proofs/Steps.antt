@@ -6,7 +6,7 @@ use Rattle.term_core.specs.declared.term.Term.{Term}
 use Rattle.term_core.specs.declared.term.Term.TheVariants.{Iri, Blank, Literal}
 use Rattle.term_core.specs.Order.{size_of}
 use Rattle.term_dict.specs.Records.{record_of}
-use Rattle.term_dict.specs.Built.{records_of, places_from, longest_of, IsText}
+use Rattle.term_dict.specs.Built.{records_of, places_from, longest_of}
 use Rattle.term_dict.proofs.Held.{by_last}
 
 -- a record has at most nine bytes beside its texts
