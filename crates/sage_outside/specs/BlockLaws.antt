@@ -10,8 +10,10 @@ same_some : (a b : List ℕ) → Some a ≡ Some b → a ≡ b
 same_some a b e = cc
 
 -- told bytes fill whole blocks
-pub whole_image : (held bytes : List ℕ) → Tells (Some (image_of held)) bytes → length bytes ≡ 4096 * block_count (length held)
-whole_image held bytes tells = ap length (sym (same_some _ _ tells.told)) ∙ length_whole (block_count (length held)) held
+pub whole_image : (held bytes : List ℕ) → Tells (Some (image_of held)) bytes
+    → length bytes ≡ 4096 * block_count (length held)
+whole_image held bytes tells =
+    ap length (sym (same_some _ _ tells.told)) ∙ length_whole (block_count (length held)) held
 
 -- what tells nothing tells no bytes
 pub untold : (bytes : List ℕ) (n : ℕ) → Tells None bytes → length bytes ≡ 4096 * n

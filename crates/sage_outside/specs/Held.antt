@@ -45,7 +45,12 @@ stored_calls file = file.calls
 
 -- blocks of bytes in memory, which are told
 abbrev pub device_of : List ℕ → ℕ → ℕ → Device
-device_of bytes faults reads = record { image = Some (image_of bytes); count = block_count (length bytes); faults = faults; reads = reads }
+device_of bytes faults reads = record {
+  image = Some (image_of bytes);
+  count = block_count (length bytes);
+  faults = faults;
+  reads = reads;
+}
 
 -- the blocks with their counts
 abbrev pub mem_device : MemBlocks → Device

@@ -1,6 +1,7 @@
 // Blocks of bytes in memory, of a shelf's files and of the system's.
 use crate::{
-    Blocks, Failed, FileShelf, MemBlocks, MemFile, MemShelf, NeverBlocks, Shelf, ShelfFault,
+    Blocks, Failed, FileShelf, MemBlocks, MemFile, MemShelf, NeverBlocks, ReadFault, Shelf,
+    ShelfFault, StoreFault,
 };
 use std::fs;
 use std::test::Fail;
@@ -44,6 +45,8 @@ fn listed_reads_fail(rt: HostRuntime) -> Result<(), Fail> {
     assert_eq!(rt; blocks.read_block(0, &mut block), Err(Failed));
     blocks.read_block(0, &mut block)?;
     assert_eq!(rt; blocks.reads(), 3);
+    assert_eq!(rt; ReadFault::from(Failed), ReadFault::Blocks);
+    assert_eq!(rt; StoreFault::from(Failed), StoreFault::Blocks);
     Ok(())
 }
 

@@ -1,5 +1,5 @@
 -- A record of which a front was read.
-use Rattle.std.proofs.Common.{◌≡◌, ℕ, ◌+◌, ◌-◌, ◌≤◌, ◌++◌, List, Option, Some, Ok, Err, Result, length, take, drop, refl, sym, ap, subst, ◌∙◌, arith, Equal}
+use Rattle.std.proofs.Common.{◌≡◌, ℕ, ◌+◌, ◌-◌, ◌≤◌, ◌++◌, List, Ok, Result, take, drop, sym, ap, subst, ◌∙◌, arith}
 use Rattle.std.proofs.lemmas.List.{drop-drop}
 use Rattle.std.specs.declared.cmp.Ordering.{Ordering}
 use Rattle.sage_outside.specs.declared.fault.StoreFault.{StoreFault}

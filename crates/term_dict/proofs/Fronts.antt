@@ -1,5 +1,5 @@
 -- What the front of a record tells of it.
-use Rattle.std.proofs.Common.{◌≡◌, ℕ, zero, suc, ◌+◌, ◌<◌, ◌≤◌, ◌++◌, [], ◌∷◌, List, Option, Some, None, Bool, true, false, length, take, drop, refl, sym, ap, subst, ◌∙◌, arith, Less, Equal, Greater, length-append}
+use Rattle.std.proofs.Common.{◌≡◌, ℕ, ◌≤◌, ◌++◌, [], ◌∷◌, List, Option, Some, None, Bool, true, false, length, take, drop, refl, sym, ap, ◌∙◌, arith, Less, Equal, Greater, length-append}
 use Rattle.std.proofs.lemmas.List.{take-append-le, drop-append-le}
 use Rattle.std.specs.Prelude.{if◌then◌else◌, ◌==◌, nat_lt}
 use Rattle.std.specs.declared.cmp.Ordering.{Ordering}
@@ -7,7 +7,7 @@ use Rattle.std.specs.Ordering.{nat_cmp, ordering_then}
 use Rattle.std.specs.Cmp.Lexicographic.{slice_cmp}
 use Rattle.term_core.specs.declared.term.Term.{Term}
 use Rattle.term_core.specs.declared.term.Term.TheVariants.{Iri, Blank, Literal}
-use Rattle.term_core.specs.Order.{rank_of, text_of, datatype_of, lang_of, bytes_cmp, term_cmp}
+use Rattle.term_core.specs.Order.{rank_of, text_of, datatype_of, lang_of, bytes_cmp}
 use Rattle.term_dict.specs.Records.{◌>>=◌, number_at, cut_at, raw_literal_at, raw_in}
 use Rattle.term_dict.specs.Fronts.{lexical_at, front_at, IsDecided}
 

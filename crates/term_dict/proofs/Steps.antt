@@ -6,7 +6,7 @@ use Rattle.term_core.specs.declared.term.Term.{Term}
 use Rattle.term_core.specs.declared.term.Term.TheVariants.{Iri, Blank, Literal}
 use Rattle.term_core.specs.Order.{size_of}
 use Rattle.term_dict.specs.Records.{record_of}
-use Rattle.term_dict.specs.Built.{records_of, places_from, longest_of, IsText}
+use Rattle.term_dict.specs.Built.{records_of, places_from, longest_of}
 use Rattle.term_dict.proofs.Held.{by_last}
 
 -- a record has at most nine bytes beside its texts
@@ -38,10 +38,10 @@ module _ (ts : List Term) (i : ℕ) (t : Term) (lt : i < length ts) (is : t ≡ 
       let f : longest_of (drop i ts) ≡ max (length (record_of t)) (longest_of (drop (i + 1) ts)) = ap longest_of here in
       omega arith
 
--- the terms before a place, and the term there
-pub texts_more : (ts : List Term) (i : ℕ) (t : Term) → slice_get ts i ≡ Some t → IsText t
-    → ((k : ℕ) (u : Term) → k < i → slice_get ts k ≡ Some u → IsText u) → (k : ℕ) (u : Term) → k < i + 1 → slice_get ts k ≡ Some u → IsText u
-texts_more ts i t at is before k u lt at_k =
-    by_last (IsText u) k i (omega arith)
-    (λ e. let same : t ≡ u = (let f : slice_get ts k ≡ slice_get ts i = ap (slice_get ts) e in cc) in subst IsText same is)
+-- what holds of the terms before a place and of the term there
+pub before_more : (P : Term → Type 0) (ts : List Term) (i : ℕ) (t : Term) → slice_get ts i ≡ Some t → P t
+    → ((k : ℕ) (u : Term) → k < i → slice_get ts k ≡ Some u → P u) → (k : ℕ) (u : Term) → k < i + 1 → slice_get ts k ≡ Some u → P u
+before_more P ts i t at is before k u lt at_k =
+    by_last (P u) k i (omega arith)
+    (λ e. let same : t ≡ u = (let f : slice_get ts k ≡ slice_get ts i = ap (slice_get ts) e in cc) in subst P same is)
     (λ lower. before k u lower at_k)

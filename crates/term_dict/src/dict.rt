@@ -1,5 +1,5 @@
 // Terms by their ranks.
-ghost use Rattle.std.specs.Prelude.{◌≡◌, ◌<◌, ◌≤◌, ◌+◌, ◌-◌, ◌*◌, ◌/◌, ◌^◌, ℕ, List, Some, OnErr, IfOk, slice_get, length};
+ghost use Rattle.std.specs.Prelude.{◌≡◌, ◌<◌, ◌≤◌, ◌+◌, ◌-◌, ◌*◌, ◌/◌, ◌^◌, ◌↔◌, ℕ, List, Some, IsTrue, OnErr, IfOk, slice_get, length};
 ghost use Rattle.std.specs.declared.cmp.Ordering.{Ordering};
 ghost use Rattle.sage_outside.specs.Causes.{Rose};
 ghost use Rattle.sage_outside.specs.Blocks.{HasRead, Tells};
@@ -31,6 +31,20 @@ pub struct Dict {
 }
 
 impl Dict {
+    /// Whether the payload is 4096 or 4080 and both areas are within so many blocks.
+    pub fn lies(&self, count: u32) -> bool
+        ensures { IsTrue result ↔ Lies self.now count }
+    {
+        if self.payload != 4096 && self.payload != 4080 {
+            return false;
+        }
+        let payload = self.payload as u64;
+        let all = count as u64 * payload;
+        let places = self.places as u64 * payload + 8 * (self.terms as u64 + 1);
+        let records = self.records as u64 * payload;
+        places <= all && records <= all && self.bytes <= all - records
+    }
+
     fn place_area(&self) -> Area
         ensures { result ≡ place_area self.now }
     {

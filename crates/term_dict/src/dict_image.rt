@@ -1,14 +1,12 @@
 // The places and records of a list of terms.
-ghost use Rattle.std.specs.Prelude.{◌≡◌, ◌≤◌, ◌++◌, ◌∷◌, [], ℕ, OnOk, IfOk, length, slice_get, Some, IsUtf8};
+ghost use Rattle.std.specs.Prelude.{◌≡◌, ◌≤◌, ◌↔◌, ◌++◌, OnOk, IfOk, IsTrue, length, IsUtf8};
 ghost use Rattle.std.specs.Int.{w32, to_be_bytes};
-ghost use Rattle.std.specs.List.Sorted.{IsStrictlySortedBy};
-ghost use Rattle.term_core.specs.declared.term.Term.{Term};
-ghost use Rattle.term_core.specs.Order.{size_of, term_cmp};
+ghost use Rattle.term_core.specs.Order.{size_of};
 ghost use Rattle.term_dict.specs.Records.{record_of};
-ghost use Rattle.term_dict.specs.Built.{records_of, places_from, longest_of, IsText, AreTexts};
+ghost use Rattle.term_dict.specs.Built.{records_of, places_from, longest_of, IsText, AreTexts, AreShort};
 
 use std::alloc::Global;
-use term_core::{Items, Memory, Term, Text};
+use term_core::{Items, Memory, Term, Text, size};
 
 /// The two areas of a dictionary, before they are put into blocks.
 #[derive(Debug, Drop)]
@@ -75,12 +73,23 @@ fn put_record(records: &mut Items<u8>, t: &Term) -> Result<(), Memory>
     }
 }
 
-/// The places and records of the terms, which rise strictly in their order. The time is linear in
-/// the bytes of the terms.
+/// Whether each of the terms is within the limit of 262,144 bytes that `size` counts.
+pub fn are_short(terms: &[Term]) -> bool
+    ensures { IsTrue result ↔ AreShort terms.now }
+{
+    for t in terms {
+        if size(t) > 262144 {
+            return false;
+        }
+    }
+    true
+}
+
+/// The places and records of the terms, in the order in which they stand. Where that is the order
+/// of terms, each has its rank. The time is linear in the bytes of the terms.
 pub fn build(alloc: Global, terms: Items<Term>) -> Result<DictImage, Memory>
-    requires rising { IsStrictlySortedBy term_cmp terms }
     requires few { length terms ≤ 12582909 }
-    requires short { (k : ℕ) (t : Term) → slice_get terms k ≡ Some t → size_of t ≤ 262144 }
+    requires short { AreShort terms }
     ensures places { IfOk result (λ d. d.places ≡ places_from 0 terms) }
     ensures records { IfOk result (λ d. d.records ≡ records_of terms) }
     ensures longest { IfOk result (λ d. d.longest ≡ longest_of terms) }
@@ -91,7 +100,7 @@ pub fn build(alloc: Global, terms: Items<Term>) -> Result<DictImage, Memory>
 
 fn image_of(alloc: Global, terms: &[Term]) -> Result<DictImage, Memory>
     requires few { length terms.now ≤ 12582909 }
-    requires short { (k : ℕ) (t : Term) → slice_get terms.now k ≡ Some t → size_of t ≤ 262144 }
+    requires short { AreShort terms.now }
     ensures places { IfOk result (λ d. d.places ≡ places_from 0 terms.now) }
     ensures records { IfOk result (λ d. d.records ≡ records_of terms.now) }
     ensures longest { IfOk result (λ d. d.longest ≡ longest_of terms.now) }

@@ -6,11 +6,12 @@ mod dict;
 mod dict_image;
 mod front;
 mod law;
+mod order;
 mod record;
 mod search;
 #[cfg(test)]
 mod tests;
 
 pub use dict::Dict;
-pub use dict_image::{DictImage, build};
+pub use dict_image::{DictImage, are_short, build};
 pub use law::{laid_out_images_hold, places_are_ranks, records_are_read};

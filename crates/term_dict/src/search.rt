@@ -1,155 +1,19 @@
-// Ranks by terms: a search by halves.
-ghost use Rattle.std.specs.Prelude.{◌≡◌, ◌<◌, ◌≤◌, ◌+◌, ◌*◌, ◌/◌, ◌-◌, ℕ, List, Some, None, Ok, IfOk, length};
+// Ranks by terms: a search in halves.
+ghost use Rattle.std.specs.Prelude.{◌≡◌, ◌<◌, ◌≤◌, ◌+◌, ◌*◌, ◌/◌, ℕ, List, Some, None, IfOk};
 ghost use Rattle.sage_outside.specs.Causes.{Rose};
 ghost use Rattle.sage_outside.specs.Blocks.{HasRead, Tells};
 ghost use Rattle.term_core.specs.declared.term.Term.{Term};
-ghost use Rattle.term_dict.specs.Areas.{part_of, touched, block_of};
-ghost use Rattle.term_dict.specs.Layout.{record_area, or_block, record_in, raw_record_in, term_at, raw_at, span_at, span_length, longest_in, Lies, Stands};
-ghost use Rattle.term_dict.specs.Records.{term_in, raw_in};
-ghost use Rattle.term_dict.specs.Ranks.{Holds, IsRank, IsGap, Compares};
+ghost use Rattle.term_dict.specs.Layout.{term_at, longest_in, Lies, Stands};
+ghost use Rattle.term_dict.specs.Ranks.{Holds, IsRank, IsGap};
 
 use crate::Dict;
-use crate::front::order_of_front;
 use sage_outside::{Blocks, StoreFault};
 use std::alloc::Global;
 use std::cmp::Ordering;
-use term_core::{Term, compare};
+use term_core::Term;
 
 impl Dict {
-    /// The record of which `front` was read, with the bytes behind it.
-    fn record_behind<B: Blocks>(
-        &self,
-        alloc: Global,
-        blocks: &mut B,
-        front: Vec<u8>,
-        from: u64,
-        count: u64,
-    ) -> Result<Vec<u8>, StoreFault>
-        requires stands { Stands self.now (B.device blocks.old).count }
-        requires front { length front.items ≤ count }
-        requires within { from + count ≤ self.now.bytes }
-        ensures read { HasRead (B.device blocks.old) (B.device blocks.new)
-            (touched self.now.payload (from + length front.items) (count - length front.items)) }
-        ensures failed { result ≡ Err StoreFault.Blocks
-            → Rose (B.device blocks.old).faults (B.device blocks.new).faults }
-        ensures found { (image : List ℕ) → Tells (B.device blocks.old).image image
-            → front.items ≡ part_of (record_area self.now) from (length front.items) image
-            → IfOk result (λ x. x.items ≡ part_of (record_area self.now) from count image) }
-        ensures whole { (block : ℕ) → result ≡ Err (StoreFault.Damaged block) → ⊥ }
-    {
-        let near = front.len() as u64;
-        let rest = self.record(alloc, blocks, from + near, count - near)?;
-        let mut bytes = front;
-        match bytes.extend_from_slice(&rest) {
-            Ok(()) => Ok(bytes),
-            Err(_) => Err(StoreFault::Memory),
-        }
-    }
-
-    /// How the term that the record with these bytes spells stands to `t`. The record begins at the
-    /// place `from`.
-    fn order_in(
-        &self,
-        alloc: Global,
-        bytes: &[u8],
-        from: u64,
-        t: &Term,
-    ) -> Result<Ordering, StoreFault>
-        requires some { 0 < self.now.payload }
-        requires fits { block_of (record_area self.now) from ≤ u32.MAX }
-        ensures found { Compares t.now result (or_block (block_of (record_area self.now) from) (raw_in bytes.now))
-            (or_block (block_of (record_area self.now) from) (term_in bytes.now)) }
-        ensures own { result ≡ Err StoreFault.Blocks → ⊥ }
-    {
-        match self.decoded(alloc, bytes, from) {
-            Err(fault) => Err(fault),
-            Ok(kept) => Ok(compare(&kept, t)),
-        }
-    }
-
-    /// How the term of the record of which `front` was read stands to `t`.
-    fn order_behind<B: Blocks>(
-        &self,
-        alloc: Global,
-        blocks: &mut B,
-        front: Vec<u8>,
-        from: u64,
-        count: u64,
-        t: &Term,
-    ) -> Result<Ordering, StoreFault>
-        requires stands { Stands self.now (B.device blocks.old).count }
-        requires front { length front.items < count }
-        requires within { from + count ≤ self.now.bytes }
-        ensures read { HasRead (B.device blocks.old) (B.device blocks.new)
-            (touched self.now.payload (from + length front.items) (count - length front.items)) }
-        ensures failed { result ≡ Err StoreFault.Blocks
-            → Rose (B.device blocks.old).faults (B.device blocks.new).faults }
-        ensures found { (image : List ℕ) → Tells (B.device blocks.old).image image
-            → front.items ≡ part_of (record_area self.now) from (length front.items) image
-            → Compares t.now result (raw_record_in self.now (Ok (from, from + count)) image)
-            (record_in self.now (Ok (from, from + count)) image) }
-    {
-        match order_of_front(front.as_slice(), t) {
-            Some(order) => Ok(order),
-            None => {
-                let bytes = self.record_behind(alloc, blocks, front, from, count)?;
-                self.order_in(alloc, bytes.as_slice(), from, t)
-            }
-        }
-    }
-
-    /// How the term of record `k` stands to `t`. What is behind the first two blocks of the record
-    /// is read only where they do not decide it.
-    fn order_at<B: Blocks>(
-        &self,
-        alloc: Global,
-        blocks: &mut B,
-        k: u32,
-        t: &Term,
-    ) -> Result<Ordering, StoreFault>
-        requires stands { Stands self.now (B.device blocks.old).count }
-        requires within { k < self.now.terms }
-        ensures read { HasRead (B.device blocks.old) (B.device blocks.new) (4 + self.now.bytes / 4080) }
-        ensures few_reads { (image : List ℕ) → Tells (B.device blocks.old).image image
-            → (B.device blocks.new).reads ≤ (B.device blocks.old).reads + (4 + span_length (span_at self.now k image) / 4080) }
-        ensures failed { result ≡ Err StoreFault.Blocks
-            → Rose (B.device blocks.old).faults (B.device blocks.new).faults }
-        ensures found { (image : List ℕ) → Tells (B.device blocks.old).image image
-            → Compares t.now result (raw_at self.now k image) (term_at self.now k image) }
-    {
-        let (from, end) = self.span(blocks, k)?;
-        self.order_in_span(alloc, blocks, from, end, t)
-    }
-
-    /// How the term of the record between those places stands to `t`.
-    fn order_in_span<B: Blocks>(
-        &self,
-        alloc: Global,
-        blocks: &mut B,
-        from: u64,
-        end: u64,
-        t: &Term,
-    ) -> Result<Ordering, StoreFault>
-        requires stands { Stands self.now (B.device blocks.old).count }
-        requires rises { from ≤ end }
-        requires within { end ≤ self.now.bytes }
-        ensures read { HasRead (B.device blocks.old) (B.device blocks.new) (2 + (end - from) / 4080) }
-        ensures failed { result ≡ Err StoreFault.Blocks
-            → Rose (B.device blocks.old).faults (B.device blocks.new).faults }
-        ensures found { (image : List ℕ) → Tells (B.device blocks.old).image image
-            → Compares t.now result (raw_record_in self.now (Ok (from, end)) image)
-            (record_in self.now (Ok (from, end)) image) }
-    {
-        let payload = self.payload as u64;
-        let near = (2 * payload - from % payload).min(end - from);
-        let front = self.record(alloc, blocks, from, near)?;
-        if near < end - from {
-            self.order_behind(alloc, blocks, front, from, end - from, t)
-        } else {
-            self.order_in(alloc, front.as_slice(), from, t)
-        }
-    }
-
+    /// The rank of the term, by a search in halves.
     fn rank_of<B: Blocks>(
         &self,
         alloc: Global,
@@ -195,8 +59,8 @@ impl Dict {
     /// one term at a time.
     ///
     /// `Damaged` names the block in which a broken number or record begins that the search came
-    /// upon. `Blocks` comes only where a read failed. Of each record that it comes upon it reads the
-    /// blocks once.
+    /// upon. `Blocks` comes only where a read failed. Each block of a record that the search comes
+    /// upon is read once, and what is behind its first two only where they do not decide.
     pub fn id_of<B: Blocks>(
         &self,
         alloc: Global,

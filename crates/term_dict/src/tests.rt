@@ -1,7 +1,8 @@
 // Dictionaries in blocks of memory.
-use crate::{Dict, DictImage, build};
-use sage_outside::{MemBlocks, StoreFault};
+use crate::{Dict, DictImage, are_short, build};
+use sage_outside::{Blocks, MemBlocks, StoreFault};
 use std::alloc::{AllocError, Global};
+use std::process::Abort;
 use std::test::Fail;
 use term_core::{Items, Term, Text};
 
@@ -42,14 +43,49 @@ fn many_terms(alloc: Global) -> Result<Items<Term>, Fail> {
     Ok(terms)
 }
 
-fn put_blocks(image: &mut Vec<u8>, bytes: &[u8], payload: usize) -> Result<(), AllocError> {
-    for piece in bytes.chunks(payload) {
-        image.extend_from_slice(piece)?;
-        for _ in piece.len()..4096 {
-            image.push(255)?;
+fn built(rt: &impl Abort, alloc: Global, terms: Items<Term>) -> Result<DictImage, Fail> {
+    assert!(rt; terms.len() <= 12582909);
+    assert!(rt; are_short(terms.as_slice()));
+    Ok(build(alloc, terms)?)
+}
+
+fn term_in<B: Blocks>(
+    rt: &impl Abort,
+    alloc: Global,
+    dict: &Dict,
+    blocks: &mut B,
+    id: u32,
+) -> Result<Term, StoreFault> {
+    assert!(rt; dict.lies(blocks.blocks()));
+    assert!(rt; id < dict.terms);
+    dict.term(alloc, blocks, id)
+}
+
+fn id_in<B: Blocks>(
+    rt: &impl Abort,
+    alloc: Global,
+    dict: &Dict,
+    blocks: &mut B,
+    t: &Term,
+) -> Result<Option<u32>, StoreFault> {
+    assert!(rt; dict.lies(blocks.blocks()));
+    dict.id_of(alloc, blocks, t)
+}
+
+fn put_blocks(image: &mut Vec<u8>, bytes: &[u8], payload: u32) -> Result<(), AllocError> {
+    if payload > 0 {
+        for piece in bytes.chunks(payload as usize) {
+            image.extend_from_slice(piece)?;
+            for _ in piece.len()..4096 {
+                image.push(255)?;
+            }
         }
     }
     Ok(())
+}
+
+fn blocks_of(image: &[u8]) -> u32 {
+    (image.len() / 4096).min(1000) as u32
 }
 
 /// A block of another kind, then the two areas.
@@ -59,14 +95,14 @@ fn in_blocks(alloc: Global, made: &DictImage, payload: u32) -> Result<(Vec<u8>, 
     for place in made.places.as_slice() {
         numbers.extend_from_slice(&place.to_be_bytes())?;
     }
-    put_blocks(&mut image, &numbers, payload as usize)?;
-    let records = (image.len() / 4096) as u32;
-    put_blocks(&mut image, made.records.as_slice(), payload as usize)?;
+    put_blocks(&mut image, &numbers, payload)?;
+    let records = blocks_of(&image);
+    put_blocks(&mut image, made.records.as_slice(), payload)?;
     let dict = Dict {
         places: 1,
         records,
-        terms: made.places.len() as u32 - 1,
-        bytes: (image.len() as u64 / 4096 - records as u64) * payload as u64,
+        terms: made.places.len().saturating_sub(1).min(1000) as u32,
+        bytes: blocks_of(&image).saturating_sub(records) as u64 * payload as u64,
         payload,
     };
     Ok((image, dict))
@@ -74,7 +110,7 @@ fn in_blocks(alloc: Global, made: &DictImage, payload: u32) -> Result<(Vec<u8>, 
 
 #[test]
 fn records_follow_one_another(rt: HostRuntime) -> Result<(), Fail> {
-    let made = build(rt.alloc(), three_terms(rt.alloc())?)?;
+    let made = built(&rt, rt.alloc(), three_terms(rt.alloc())?)?;
     assert_eq!(rt; made.places.as_slice(), [0, 2, 5, 19].as_slice());
     assert_eq!(rt;
         made.records.as_slice(),
@@ -87,15 +123,15 @@ fn records_follow_one_another(rt: HostRuntime) -> Result<(), Fail> {
 #[test]
 fn terms_have_their_ranks(rt: HostRuntime) -> Result<(), Fail> {
     let terms = many_terms(rt.alloc())?;
-    let made = build(rt.alloc(), terms.copy(rt.alloc())?)?;
+    let made = built(&rt, rt.alloc(), terms.copy(rt.alloc())?)?;
     for payload in [4096, 4080] {
         let (image, dict) = in_blocks(rt.alloc(), &made, payload)?;
         for k in [0, 1, 180, 181, 182, 509, 510, 511, 512, 599, 600, 601, 602] {
             let mut blocks = MemBlocks::new(&image, Vec::new(rt.alloc()));
-            let t = dict.term(rt.alloc(), &mut blocks, k)?;
+            let t = term_in(&rt, rt.alloc(), &dict, &mut blocks, k)?;
             assert!(rt; Some(&t) == terms.get(k as usize));
             assert!(rt; blocks.reads() <= 4 + made.longest as u64 / 4080);
-            assert_eq!(rt; dict.id_of(rt.alloc(), &mut blocks, &t), Ok(Some(k)));
+            assert_eq!(rt; id_in(&rt, rt.alloc(), &dict, &mut blocks, &t), Ok(Some(k)));
             assert!(rt; blocks.reads() <= 26 * (4 + made.longest as u64 / 4080));
         }
     }
@@ -104,7 +140,7 @@ fn terms_have_their_ranks(rt: HostRuntime) -> Result<(), Fail> {
 
 #[test]
 fn other_terms_have_no_rank(rt: HostRuntime) -> Result<(), Fail> {
-    let made = build(rt.alloc(), many_terms(rt.alloc())?)?;
+    let made = built(&rt, rt.alloc(), many_terms(rt.alloc())?)?;
     let (image, dict) = in_blocks(rt.alloc(), &made, 4080)?;
     let mut blocks = MemBlocks::new(&image, Vec::new(rt.alloc()));
     let others = [
@@ -116,7 +152,7 @@ fn other_terms_have_no_rank(rt: HostRuntime) -> Result<(), Fail> {
         literal(rt.alloc(), "n", "d", "")?,
     ];
     for t in others.as_slice() {
-        assert_eq!(rt; dict.id_of(rt.alloc(), &mut blocks, t), Ok(None));
+        assert_eq!(rt; id_in(&rt, rt.alloc(), &dict, &mut blocks, t), Ok(None));
     }
     Ok(())
 }
@@ -129,12 +165,12 @@ fn a_long_record_is_read_as_far_as_it_decides(rt: HostRuntime) -> Result<(), Fai
     }
     let mut terms = Items::new(rt.alloc());
     terms.push(literal(rt.alloc(), &long, "d", "")?)?;
-    let made = build(rt.alloc(), terms)?;
+    let made = built(&rt, rt.alloc(), terms)?;
     let (image, dict) = in_blocks(rt.alloc(), &made, 4096)?;
     for (lexical, most) in [("a", 3), ("mn", 3), (long.as_str(), 11)] {
         let mut blocks = MemBlocks::new(&image, Vec::new(rt.alloc()));
         let t = literal(rt.alloc(), lexical, "d", "en")?;
-        assert_eq!(rt; dict.id_of(rt.alloc(), &mut blocks, &t), Ok(None));
+        assert_eq!(rt; id_in(&rt, rt.alloc(), &dict, &mut blocks, &t), Ok(None));
         assert!(rt; blocks.reads() <= most);
     }
     Ok(())
@@ -142,11 +178,11 @@ fn a_long_record_is_read_as_far_as_it_decides(rt: HostRuntime) -> Result<(), Fai
 
 #[test]
 fn an_empty_dictionary_has_no_term(rt: HostRuntime) -> Result<(), Fail> {
-    let made = build(rt.alloc(), Items::new(rt.alloc()))?;
+    let made = built(&rt, rt.alloc(), Items::new(rt.alloc()))?;
     let (image, dict) = in_blocks(rt.alloc(), &made, 4096)?;
     let mut blocks = MemBlocks::new(&image, Vec::new(rt.alloc()));
     let t = Term::Iri(text(rt.alloc(), "i:")?);
-    assert_eq!(rt; dict.id_of(rt.alloc(), &mut blocks, &t), Ok(None));
+    assert_eq!(rt; id_in(&rt, rt.alloc(), &dict, &mut blocks, &t), Ok(None));
     assert_eq!(rt; blocks.reads(), 0);
     Ok(())
 }
@@ -154,24 +190,24 @@ fn an_empty_dictionary_has_no_term(rt: HostRuntime) -> Result<(), Fail> {
 #[test]
 fn each_read_fails_in_turn(rt: HostRuntime) -> Result<(), Fail> {
     let terms = many_terms(rt.alloc())?;
-    let made = build(rt.alloc(), terms.copy(rt.alloc())?)?;
+    let made = built(&rt, rt.alloc(), terms.copy(rt.alloc())?)?;
     let (image, dict) = in_blocks(rt.alloc(), &made, 4096)?;
-    let mut failed = 0;
+    let mut failed = 0u64;
     for n in 0u64..60 {
         let mut blocks = MemBlocks::new(&image, vec![in rt.alloc(); n]?);
         match terms.get(601) {
             None => {}
-            Some(t) => match dict.id_of(rt.alloc(), &mut blocks, t) {
+            Some(t) => match id_in(&rt, rt.alloc(), &dict, &mut blocks, t) {
                 Ok(id) => assert_eq!(rt; id, Some(601)),
                 Err(fault) => {
                     assert!(rt; fault == StoreFault::Blocks);
-                    failed += 1;
+                    failed = n;
                     assert_eq!(rt; blocks.reads(), n + 1);
                 }
             },
         }
     }
-    assert!(rt; failed > 10 && failed < 60);
+    assert!(rt; failed > 10 && failed < 59);
     Ok(())
 }
 
@@ -189,13 +225,15 @@ const BROKEN: [(usize, u8, u32, u32); 7] = [
 
 #[test]
 fn broken_blocks_are_named(rt: HostRuntime) -> Result<(), Fail> {
-    let made = build(rt.alloc(), three_terms(rt.alloc())?)?;
+    let made = built(&rt, rt.alloc(), three_terms(rt.alloc())?)?;
     for (place, byte, id, block) in BROKEN {
         let (mut image, dict) = in_blocks(rt.alloc(), &made, 4096)?;
+        assert!(rt; place < image.len());
         image[place] = byte;
         let mut blocks = MemBlocks::new(&image, Vec::new(rt.alloc()));
         assert!(rt;
-            dict.term(rt.alloc(), &mut blocks, id).err() == Some(StoreFault::Damaged { block })
+            term_in(&rt, rt.alloc(), &dict, &mut blocks, id).err()
+                == Some(StoreFault::Damaged { block })
         );
     }
     Ok(())

@@ -6,7 +6,7 @@ use Rattle.term_dict.specs.Records.{record_of}
 use Rattle.term_dict.specs.Built.{IsText}
 use Rattle.term_dict.proofs.Answered.{on_ok}
 use Rattle.term_dict.proofs.Ranks.{inside}
-use Rattle.term_dict.proofs.Steps.{record_short, records_more, places_more, longest_more, texts_more}
+use Rattle.term_dict.proofs.Steps.{record_short, records_more, places_more, longest_more, before_more}
 use Rattle.term_dict.proofs.dict_image.image_of.Goals as goal
 
 pub loop-t-preserved : goal.loop-t-preserved
@@ -24,7 +24,7 @@ loop-t-preserved c =
       places = places_more c.args.terms.now c.loop-t.t-index t c.loop-t-test.true c.t-item.is _ _ _ _ _ (put ∙ ap (λ n. c.loop-t.places ++ n ∷ []) c.len-from.ensures) more c.loop-t.invariant.places;
       longest = longest_more c.args.terms.now c.loop-t.t-index t c.loop-t-test.true c.t-item.is c.loop-t.longest _ _ max_is c.loop-t.invariant.longest;
       small = omega arith;
-      texts = texts_more c.args.terms.now c.loop-t.t-index t at text c.loop-t.invariant.texts;
+      texts = before_more IsText c.args.terms.now c.loop-t.t-index t at text c.loop-t.invariant.texts;
     }
 
 pub returns-clause-texts : goal.returns-clause-texts

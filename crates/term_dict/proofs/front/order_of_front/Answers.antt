@@ -1,4 +1,4 @@
-use Rattle.std.proofs.Common.{◌≡◌, Less, Greater, ◌∙◌, sym, ap, take, length, nat_cmp}
+use Rattle.std.proofs.Common.{Less, Greater, ◌∙◌, sym, ap, take, length, nat_cmp}
 use Rattle.std.specs.Ordering.{ordering_then}
 use Rattle.std.specs.Cmp.Lexicographic.{slice_cmp}
 use Rattle.term_dict.proofs.Fronts.{decided}

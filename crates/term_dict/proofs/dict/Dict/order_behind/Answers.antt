@@ -1,4 +1,4 @@
-use Rattle.std.proofs.Common.{◌≡◌, ◌+◌, ◌-◌, ◌≤◌, ◌++◌, ◌∙◌, List, ℕ, Ok, ap, arith, length, refl, subst}
+use Rattle.std.proofs.Common.{◌≡◌, ◌+◌, ◌-◌, ◌++◌, ◌∙◌, List, ℕ, Ok, ap, arith, length, refl, subst}
 use Rattle.term_dict.specs.Areas.{part_of, block_of}
 use Rattle.term_dict.specs.Fronts.{IsDecided}
 use Rattle.term_dict.specs.Layout.{record_area}

@@ -1,4 +1,3 @@
-use Rattle.std.proofs.Common.{arith}
 use Rattle.term_dict.proofs.Held.{reads_ok}
 use Rattle.term_dict.proofs.Behind.{compares_bytes}
 use Rattle.term_dict.proofs.dict.Dict.order_in.Goals as goal
