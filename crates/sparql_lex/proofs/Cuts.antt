@@ -1,19 +1,18 @@
 -- Steps of the cutting of a text.
-use Rattle.std.proofs.Common.{◌≡◌, ◌⊎◌, inl, inr, ℕ, zero, suc, ◌+◌, ◌≤◌, ◌<◌, Bool, true, false, List, [], ◌∷◌, ◌++◌, length, take, drop, length-append, Option, Some, None, refl, sym, subst, ap, ◌∙◌, arith}
-use Rattle.std.specs.Prelude.{codes, encode_utf8}
+use Rattle.std.proofs.Common.{◌≡◌, ℕ, suc, ◌+◌, ◌<◌, Bool, true, false, List, [], ◌∷◌, ◌++◌, length, take, drop, length-append, None, refl, sym, subst, ap, ◌∙◌, arith}
+use Rattle.std.specs.Prelude.{codes}
 use Rattle.std.proofs.lemmas.Str.{encode_ascii}
 use Rattle.term_core.specs.Characters.{AreAll}
-use Rattle.term_core.specs.Tokens.{Lexes, stop, space, comment, next, IsLongest, IsStuck, EndsLine, is_space, is_in_line, width, token}
+use Rattle.term_core.specs.Tokens.{Lexes, stop, space, comment, next, EndsLine, is_space, is_in_line, width, token}
 use Rattle.term_core.specs.declared.token.Kind.{Kind}
 use Rattle.term_core.specs.declared.token.Token.{Token}
-use Rattle.sparql_lex.specs.declared.lexing.Front.{Front}
 use Rattle.sparql_lex.specs.declared.lexing.Front.TheVariants as fronts
 use Rattle.sparql_lex.specs.Fronts.{FrontIs}
 use Rattle.sparql_lex.specs.Scan.{run, longest}
 use Rattle.sparql_lex.proofs.Bools.{among, all-one, all-first}
-use Rattle.sparql_lex.proofs.Widths.{width-cons, width-append}
+use Rattle.sparql_lex.proofs.Widths.{width-cons}
 use Rattle.sparql_lex.proofs.Reading.{found_at}
-use Rattle.sparql_lex.proofs.LongestTokens.{BeginsLongest, longest-found, longest-none, some-token}
+use Rattle.sparql_lex.proofs.LongestTokens.{longest-found, longest-none, some-token}
 
 pub lexes-then : {at mid end : ℕ} {text rest left : List ℕ} {ts us : List Token} → Lexes at text ts mid rest → Lexes mid rest us end left → Lexes at text (ts ++ us) end left
 lexes-then stop m = m

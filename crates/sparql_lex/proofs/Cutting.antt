@@ -1,5 +1,5 @@
 -- A text is cut in one way, and always.
-use Rattle.std.proofs.Common.{◌≡◌, ◌⊎◌, inl, inr, ℕ, zero, suc, ◌+◌, ◌≤◌, ◌<◌, Bool, true, false, cond, List, [], ◌∷◌, ◌++◌, length, take, drop, length-append, length-drop, Option, Some, None, refl, sym, subst, ap, ◌∙◌, arith}
+use Rattle.std.proofs.Common.{◌≡◌, ℕ, zero, suc, ◌+◌, ◌<◌, Bool, true, false, cond, List, [], ◌∷◌, ◌++◌, length, take, drop, length-append, length-drop, Some, None, refl, sym, subst, ap, ◌∙◌, arith}
 use Rattle.std.specs.Prelude.{◌==◌}
 use Rattle.std.proofs.lemmas.Bool.Decides.{nat_tests}
 use Rattle.term_core.specs.Characters.{AreAll}
@@ -11,9 +11,7 @@ use Rattle.sparql_lex.specs.declared.lexing.Front.TheVariants as fronts
 use Rattle.sparql_lex.specs.Fronts.{FrontIs}
 use Rattle.sparql_lex.specs.Scan.{Found, run, longest}
 use Rattle.sparql_lex.proofs.Bools.{false_of, same}
-use Rattle.sparql_lex.proofs.Widths.{width-cons}
-use Rattle.sparql_lex.proofs.Reading.{found_at}
-use Rattle.sparql_lex.proofs.LongestTokens.{BeginsLongest, longest-found, longest-is, some-token, token-no_space, token-no_comment}
+use Rattle.sparql_lex.proofs.LongestTokens.{longest-found, longest-is, some-token, token-no_space, token-no_comment}
 use Rattle.sparql_lex.proofs.Cuts.{lexes-then, take-front, drop-front, run-stops, line-ends, front-space, front-comment, front-next, front-nothing}
 
 -- the tokens, the byte behind them, and whether the text ends there

@@ -1,14 +1,12 @@
 -- A text is a token of a kind exactly where the states read it as one.
-use Rattle.std.proofs.Common.{◌≡◌, ◌⊎◌, inl, inr, ℕ, Bool, true, false, List, [], ◌∷◌, Option, Some, None, refl, sym, subst, ap, ◌∙◌, arith}
-use Rattle.std.specs.Prelude.{◌==◌, codes}
+use Rattle.std.proofs.Common.{◌≡◌, ◌⊎◌, inl, inr, ℕ, Bool, true, false, List, [], ◌∷◌, Some, refl, sym, subst, ap, ◌∙◌}
+use Rattle.std.specs.Prelude.{codes}
 use Rattle.term_core.specs.Bags.{In}
 use Rattle.term_core.specs.Characters.{is_among, is_letter}
-use Rattle.term_core.specs.Terminals.{IsToken, IsPrefixedName, IsBlank, IsVariable, IsLanguage, IsIri, IsShortString, IsLongString, is_quote, signs}
+use Rattle.term_core.specs.Terminals.{IsToken, IsPrefixedName, IsBlank, IsVariable, IsLanguage, IsShortString, IsLongString, is_quote, signs}
 use Rattle.term_core.specs.declared.token.Kind.{Kind}
 use Rattle.term_core.specs.declared.token.Kind.TheVariants as kinds
-use Rattle.sparql_lex.specs.declared.state.State.{State}
 use Rattle.sparql_lex.specs.declared.state.State.TheVariants as states
-use Rattle.sparql_lex.specs.declared.state.Body.TheVariants as bodies
 use Rattle.sparql_lex.specs.declared.state.Mark.TheVariants as marks
 use Rattle.sparql_lex.specs.declared.state.Name.TheVariants as names
 use Rattle.sparql_lex.specs.declared.state.Label.TheVariants as labels
@@ -17,14 +15,14 @@ use Rattle.sparql_lex.specs.declared.state.Number.TheVariants as numbers
 use Rattle.sparql_lex.specs.declared.state.Tag.TheVariants as tags
 use Rattle.sparql_lex.specs.declared.state.Quoted.TheVariants as quoted
 use Rattle.sparql_lex.specs.Steps.{step, start_rows}
-use Rattle.sparql_lex.proofs.Bools.{same, among}
+use Rattle.sparql_lex.proofs.Bools.{among}
 use Rattle.sparql_lex.proofs.Reading.{reads, read-cases}
 use Rattle.sparql_lex.proofs.NameStates.{put, NameTail, name-sound, name-token, prefix-token, colon-token, word-read, prefixed_name-read}
 use Rattle.sparql_lex.proofs.LabelStates.{VariableTail, label-sound, blank-read, variable-sound, variable-read, variable-token}
 use Rattle.sparql_lex.proofs.TagStates.{tag-sound, language-read, language-token}
 use Rattle.sparql_lex.proofs.MarkStates.{MarkTail, is_sign, sign-read, mark-sound, mark-token}
 use Rattle.sparql_lex.proofs.NumberStates.{of_kind, one-digit, number-sound, integer-read, decimal-read, double-read}
-use Rattle.sparql_lex.proofs.QuotedTails.{QuotedTail, IriTail, ShortTail, LongBehind, quoted-sound}
+use Rattle.sparql_lex.proofs.QuotedTails.{QuotedTail, ShortTail, LongBehind, quoted-sound}
 use Rattle.sparql_lex.proofs.QuotedStates.{iri-read, short-read, long-read}
 
 pub token-read : (kind : Kind) (text : List ℕ) → IsToken kind text → reads text states.Start ≡ Some kind

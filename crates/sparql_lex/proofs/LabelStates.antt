@@ -1,9 +1,8 @@
 -- What the states of labels of blank nodes and of variables read.
-use Rattle.std.proofs.Common.{◌≡◌, ◌≢◌, ◌⊎◌, inl, inr, ℕ, suc, Bool, true, false, List, [], ◌∷◌, ◌++◌, append_assoc, Option, Some, None, refl, sym, subst, ap, ◌∙◌, arith}
-use Rattle.std.specs.Prelude.{◌==◌, ◌||◌, ◌&&◌, codes}
+use Rattle.std.proofs.Common.{◌≡◌, ◌≢◌, ◌⊎◌, inl, inr, ℕ, true, List, [], ◌∷◌, Some, refl, sym, subst, ap, ◌∙◌}
+use Rattle.std.specs.Prelude.{◌==◌, codes}
 use Rattle.term_core.specs.declared.token.Kind.{Kind}
 use Rattle.term_core.specs.declared.token.Kind.TheVariants as kinds
-use Rattle.sparql_lex.specs.declared.state.State.{State}
 use Rattle.sparql_lex.specs.declared.state.State.TheVariants as states
 use Rattle.term_core.specs.Characters.{is_pn, is_pn_base, is_among, AreAll}
 use Rattle.term_core.specs.Names.{IsDotted, IsName}
@@ -12,7 +11,7 @@ use Rattle.sparql_lex.specs.declared.state.Label.{Label}
 use Rattle.sparql_lex.specs.declared.state.Label.TheVariants as labels
 use Rattle.sparql_lex.specs.declared.state.Variable.{Variable}
 use Rattle.sparql_lex.specs.declared.state.Variable.TheVariants as variables
-use Rattle.sparql_lex.specs.Steps.{kind_of, step, label_rows, variable_rows}
+use Rattle.sparql_lex.specs.Steps.{step, label_rows, variable_rows}
 use Rattle.sparql_lex.proofs.Bools.{either, same, among, all-first, all-one, pn-dot}
 use Rattle.sparql_lex.proofs.NameStates.{some_kind, dotted-part, dotted-dot, not-empty}
 use Rattle.sparql_lex.proofs.Reading.{reads, read-cases}

@@ -1,15 +1,15 @@
 -- What is found at the front of a text is its longest token.
-use Rattle.std.proofs.Common.{◌≡◌, ℕ, zero, suc, ◌+◌, ◌≤◌, ◌<◌, Bool, true, false, List, [], ◌∷◌, ◌++◌, length, Option, Some, None, refl, sym, subst, ap, ◌∙◌, arith}
+use Rattle.std.proofs.Common.{◌≡◌, ℕ, ◌≤◌, ◌<◌, true, false, List, [], ◌∷◌, ◌++◌, length, None, refl, sym, ap, ◌∙◌, arith}
 use Rattle.std.specs.Prelude.{codes}
-use Rattle.term_core.specs.Characters.{is_pn_base, is_among}
+use Rattle.term_core.specs.Characters.{is_pn_base}
 use Rattle.term_core.specs.Terminals.{IsToken}
 use Rattle.term_core.specs.Tokens.{IsLongest, is_space}
 use Rattle.term_core.specs.declared.token.Kind.{Kind}
 use Rattle.sparql_lex.specs.declared.state.State.TheVariants.{Start}
 use Rattle.sparql_lex.specs.Steps.{step}
-use Rattle.sparql_lex.specs.Scan.{Found, longest}
-use Rattle.sparql_lex.proofs.Bools.{among, false_of, same}
-use Rattle.sparql_lex.proofs.Reading.{reads, AtLeast, Begins, longest-covers, longest-begins, found_at, same-kind}
+use Rattle.sparql_lex.specs.Scan.{longest}
+use Rattle.sparql_lex.proofs.Bools.{among, false_of}
+use Rattle.sparql_lex.proofs.Reading.{reads, longest-covers, longest-begins, found_at, same-kind}
 use Rattle.sparql_lex.proofs.KindStates.{token-read, read-token}
 
 -- the text begins with this kind of token, of so many characters, as its longest

@@ -1,20 +1,18 @@
 -- What the states of signs read.
-use Rattle.std.proofs.Common.{◌≡◌, ◌≢◌, ◌⊎◌, inl, inr, ℕ, suc, Bool, true, false, List, [], ◌∷◌, ◌++◌, append_assoc, Option, Some, None, refl, sym, subst, ap, ◌∙◌, arith}
-use Rattle.std.specs.Prelude.{◌==◌, ◌||◌, ◌&&◌, codes}
-use Rattle.std.proofs.lemmas.List.{append-nil}
+use Rattle.std.proofs.Common.{◌≡◌, ◌⊎◌, inl, inr, ℕ, Bool, true, false, List, [], ◌∷◌, Some, refl, sym, subst}
+use Rattle.std.specs.Prelude.{◌==◌, ◌&&◌}
 use Rattle.term_core.specs.declared.token.Kind.{Kind}
 use Rattle.term_core.specs.declared.token.Kind.TheVariants as kinds
-use Rattle.sparql_lex.specs.declared.state.State.{State}
 use Rattle.sparql_lex.specs.declared.state.State.TheVariants as states
 use Rattle.std.specs.List.{list_any}
 use Rattle.term_core.specs.Bags.{In}
-use Rattle.term_core.specs.Characters.{is_pn_base, is_among}
+use Rattle.term_core.specs.Characters.{is_pn_base}
 use Rattle.term_core.specs.Terminals.{signs}
 use Rattle.sparql_lex.specs.declared.state.Mark.{Mark}
 use Rattle.sparql_lex.specs.declared.state.Mark.TheVariants as marks
-use Rattle.sparql_lex.specs.Steps.{kind_of, step, mark_rows}
-use Rattle.sparql_lex.proofs.Bools.{both, either, same, among}
-use Rattle.sparql_lex.proofs.NameStates.{some_kind, put}
+use Rattle.sparql_lex.specs.Steps.{step, mark_rows}
+use Rattle.sparql_lex.proofs.Bools.{both, either, same}
+use Rattle.sparql_lex.proofs.NameStates.{some_kind}
 use Rattle.sparql_lex.proofs.Reading.{reads, read-cases}
 
 -- equal lists, as a test

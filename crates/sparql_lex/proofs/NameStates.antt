@@ -1,18 +1,17 @@
 -- What the states of words and prefixed names read.
-use Rattle.std.proofs.Common.{◌≡◌, ◌≢◌, ◌⊎◌, inl, inr, ℕ, suc, Bool, true, false, List, [], ◌∷◌, ◌++◌, Option, Some, None, refl, sym, subst, ap, ◌∙◌, arith}
-use Rattle.std.specs.Prelude.{◌==◌, ◌||◌, ◌&&◌}
-use Rattle.term_core.specs.Characters.{is_letter, is_digit, is_hex, is_pn, is_pn_u, is_pn_base, is_among, AreAll}
-use Rattle.term_core.specs.Names.{IsDotted, IsName}
-use Rattle.term_core.specs.Terminals.{IsPrefix, IsLocal, IsPrefixedName, IsWord, AreLocalParts, no_part, part, dot, percent, backslash, is_local_part, is_local_first, is_label_first, is_local_escape, is_word_part}
+use Rattle.std.proofs.Common.{◌≡◌, ◌≢◌, ◌⊎◌, inl, inr, ℕ, Bool, true, false, List, [], ◌∷◌, ◌++◌, Some, refl, sym, subst, ap, ◌∙◌}
+use Rattle.std.specs.Prelude.{◌==◌, ◌||◌}
+use Rattle.term_core.specs.Characters.{is_letter, is_hex, is_pn, is_pn_u, is_pn_base, AreAll}
+use Rattle.term_core.specs.Names.{IsDotted}
+use Rattle.term_core.specs.Terminals.{IsPrefix, IsLocal, IsPrefixedName, IsWord, AreLocalParts, no_part, part, dot, percent, backslash, is_local_first, is_label_first, is_word_part}
 use Rattle.term_core.specs.declared.token.Kind.{Kind}
 use Rattle.term_core.specs.declared.token.Kind.TheVariants as kinds
-use Rattle.sparql_lex.specs.declared.state.State.{State}
 use Rattle.sparql_lex.specs.declared.state.State.TheVariants as states
 use Rattle.sparql_lex.specs.declared.state.Name.{Name}
 use Rattle.sparql_lex.specs.declared.state.Name.TheVariants as names
-use Rattle.sparql_lex.specs.Steps.{kind_of, step, name_rows}
-use Rattle.sparql_lex.proofs.Bools.{both, either, all-first, holds_left, holds_right, same, other_than, letter-pn_base, false_of, word-pn, label_first-local, label_first-local_first, local_first-part, pn-dot, pn-colon, pn-percent, pn-backslash, pn_u-dot, pn_u-percent, pn_u-backslash}
-use Rattle.sparql_lex.proofs.Reading.{reads, read-cases, first-row, later-row}
+use Rattle.sparql_lex.specs.Steps.{step, name_rows}
+use Rattle.sparql_lex.proofs.Bools.{either, all-first, holds_left, holds_right, same, other_than, letter-pn_base, word-pn, label_first-local, label_first-local_first, local_first-part, pn-dot, pn-colon, pn-percent, pn-backslash, pn_u-dot, pn_u-percent, pn_u-backslash}
+use Rattle.sparql_lex.proofs.Reading.{reads, read-cases}
 
 -- behind the first character of a prefix, or behind a dot: the rest of the prefix, the colon and a local name
 pub record PrefixTail (behind_name : Bool) (text : List ℕ) : Type 0 where

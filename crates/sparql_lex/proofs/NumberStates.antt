@@ -1,19 +1,18 @@
 -- What the states of numbers read.
-use Rattle.std.proofs.Common.{◌≡◌, ◌≢◌, ◌⊎◌, inl, inr, ℕ, suc, Bool, true, false, List, [], ◌∷◌, ◌++◌, append_assoc, Option, Some, None, refl, sym, subst, ap, ◌∙◌, arith}
-use Rattle.std.specs.Prelude.{◌==◌, ◌||◌, ◌&&◌, codes}
+use Rattle.std.proofs.Common.{◌≡◌, ◌⊎◌, inl, inr, ℕ, true, List, [], ◌∷◌, ◌++◌, append_assoc, Some, refl, sym, subst, ap, ◌∙◌}
+use Rattle.std.specs.Prelude.{◌==◌, codes}
 use Rattle.std.proofs.lemmas.List.{append-nil}
 use Rattle.term_core.specs.declared.token.Kind.{Kind}
 use Rattle.term_core.specs.declared.token.Kind.TheVariants as kinds
-use Rattle.sparql_lex.specs.declared.state.State.{State}
 use Rattle.sparql_lex.specs.declared.state.State.TheVariants as states
 use Rattle.term_core.specs.Characters.{is_digit, is_pn_base, is_among, AreAll}
 use Rattle.term_core.specs.Terminals.{IsInteger, IsDecimal, IsPointed, IsExponent, IsDouble, IsToken}
 use Rattle.sparql_lex.specs.declared.state.Number.{Number}
 use Rattle.sparql_lex.specs.declared.state.Number.TheVariants as numbers
-use Rattle.sparql_lex.specs.Steps.{kind_of, step, number_rows, is_exponent}
+use Rattle.sparql_lex.specs.Steps.{step, number_rows, is_exponent}
 use Rattle.sparql_lex.proofs.Bools.{same, among, all-first, all-one, all-append, digit-no_letter, digit-no_pn_base}
 use Rattle.sparql_lex.proofs.MarkStates.{is_sign}
-use Rattle.sparql_lex.proofs.NameStates.{some_kind, not-empty, put}
+use Rattle.sparql_lex.proofs.NameStates.{some_kind, not-empty}
 use Rattle.sparql_lex.proofs.Reading.{reads, read-cases}
 
 -- what may follow in each state, up to a token of the kind: with any digits that may stand before

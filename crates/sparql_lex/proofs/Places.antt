@@ -1,16 +1,15 @@
 -- What stands at a place of a text.
-use Rattle.std.proofs.Common.{◌≡◌, ℕ, zero, suc, ◌+◌, ◌≤◌, ◌<◌, Bool, true, false, List, [], ◌∷◌, ◌++◌, length, take, drop, get_or, Option, Some, None, refl, sym, subst, ap, ◌∙◌, arith}
-use Rattle.std.proofs.lemmas.List.{drop-drop, append-nil}
+use Rattle.std.proofs.Common.{◌≡◌, ℕ, zero, suc, ◌+◌, ◌<◌, true, false, List, [], ◌∷◌, ◌++◌, length, take, drop, get_or, None, refl, sym, subst, ap, ◌∙◌, arith}
+use Rattle.std.proofs.lemmas.List.{drop-drop}
 use Rattle.term_core.specs.Characters.{is_letter}
 use Rattle.term_core.specs.Terminals.{is_word_part}
 use Rattle.term_core.specs.Tokens.{Lexes, IsStuck, is_space, is_in_line, width}
-use Rattle.term_core.specs.declared.token.Kind.{Kind}
 use Rattle.term_core.specs.declared.token.Kind.TheVariants as kinds
 use Rattle.term_core.specs.declared.token.Token.{Token}
 use Rattle.sparql_lex.specs.declared.lexing.Front.TheVariants as fronts
 use Rattle.sparql_lex.specs.Fronts.{FrontIs}
 use Rattle.sparql_lex.specs.Names.{ends_prefix}
-use Rattle.sparql_lex.specs.Scan.{Found, run, longest}
+use Rattle.sparql_lex.specs.Scan.{run, longest}
 use Rattle.sparql_lex.proofs.Cuts.{lexes-then, lexes-same, front-space, front-comment, front-nothing}
 use Rattle.sparql_lex.proofs.Reading.{found_at}
 use Rattle.sparql_lex.proofs.Widths.{width-cons}

@@ -1,7 +1,7 @@
 -- The states of IRIs and strings read each IRI and each string.
-use Rattle.std.proofs.Common.{◌≡◌, ◌≢◌, ◌⊎◌, inl, inr, ℕ, zero, suc, ◌+◌, ◌*◌, ◌-◌, ◌<◌, ◌≤◌, Bool, true, false, List, [], ◌∷◌, ◌++◌, length, append_assoc, Option, Some, None, refl, sym, subst, ap, ◌∙◌, arith}
-use Rattle.std.specs.Prelude.{◌==◌, ◌||◌, ◌&&◌, not, nat_lt, codes}
-use Rattle.std.specs.Char.{IsScalar, digit_value}
+use Rattle.std.proofs.Common.{◌≡◌, inl, inr, ℕ, zero, suc, ◌+◌, ◌*◌, ◌-◌, ◌<◌, ◌≤◌, Bool, true, false, List, [], ◌∷◌, ◌++◌, length, append_assoc, Option, Some, refl, sym, subst, ◌∙◌, arith}
+use Rattle.std.specs.Prelude.{◌==◌, nat_lt, codes}
+use Rattle.std.specs.Char.{digit_value}
 use Rattle.std.proofs.lemmas.Bool.Decides.{nat_tests}
 use lib.Utf8.{scalar}
 use Rattle.term_core.specs.declared.token.Kind.{Kind}
@@ -10,18 +10,15 @@ use Rattle.sparql_lex.specs.declared.state.State.{State}
 use Rattle.sparql_lex.specs.declared.state.State.TheVariants as states
 use Rattle.sparql_lex.specs.declared.state.Body.{Body}
 use Rattle.sparql_lex.specs.declared.state.Body.TheVariants as bodies
-use Rattle.sparql_lex.specs.declared.state.Quoted.{Quoted}
 use Rattle.sparql_lex.specs.declared.state.Quoted.TheVariants as quoted
 use Rattle.term_core.specs.Characters.{is_hex, is_iri, is_pn_base, is_among, AreAll}
 use Rattle.term_core.specs.Escapes.{hex_onto, hex_number, IsUchar, IsEchar, echar_value, IsEscaped, IsIriEscape, IsStringEscape, IsIriBody}
 use Rattle.term_core.specs.Escapes as escapes
 use Rattle.term_core.specs.Terminals.{IsIri, IsShortString, IsLongString, IsLongBody, is_quote, is_plain_in, is_long_plain}
 use Rattle.term_core.specs.Terminals as terminals
-use Rattle.sparql_lex.specs.Steps.{kind_of, step, quoted_rows, may_spell, is_echar, with_digit, is_next}
-use Rattle.sparql_lex.proofs.Bools.{both, either, same, among, all-first, all-one}
-use Rattle.sparql_lex.proofs.NameStates.{some_kind, not-empty, put}
-use Rattle.sparql_lex.proofs.Reading.{reads, read-cases}
-use Rattle.sparql_lex.proofs.QuotedTails.{BodyEscape}
+use Rattle.sparql_lex.specs.Steps.{step, may_spell, with_digit, is_next}
+use Rattle.sparql_lex.proofs.Bools.{both, same, among, all-first}
+use Rattle.sparql_lex.proofs.Reading.{reads}
 
 by_quote : (P : ℕ → Type 0) (quote : ℕ) → is_quote quote ≡ true → P 34 → P 39 → P quote
 by_quote P quote h a b = among P (codes "\"'") quote (a, (b, tt)) h

@@ -1,5 +1,5 @@
 -- Reading a text by states, and the longest token that is found by it.
-use Rattle.std.proofs.Common.{◌≡◌, ◌⊎◌, inl, inr, ℕ, zero, suc, ◌+◌, ◌≤◌, ◌<◌, Bool, true, false, cond, List, [], ◌∷◌, ◌++◌, length, Option, Some, None, refl, sym, subst, ap, ◌∙◌, arith}
+use Rattle.std.proofs.Common.{◌≡◌, ◌⊎◌, inl, inr, ℕ, suc, ◌+◌, ◌≤◌, Bool, true, false, cond, List, [], ◌∷◌, ◌++◌, length, Option, Some, None, refl, subst, ap, ◌∙◌, arith}
 use Rattle.term_core.specs.declared.token.Kind.{Kind}
 use Rattle.sparql_lex.specs.declared.state.State.{State}
 use Rattle.sparql_lex.specs.declared.state.State.TheVariants.{Start}

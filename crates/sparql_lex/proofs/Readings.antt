@@ -1,5 +1,5 @@
 -- A text has tokens or a place where none begins, and one of them.
-use Rattle.std.proofs.Common.{◌≡◌, ◌⊎◌, inl, inr, ℕ, suc, ◌+◌, ◌≤◌, ◌<◌, Bool, true, false, List, [], ◌∷◌, length, Option, Some, refl, sym, ap, ◌∙◌, arith}
+use Rattle.std.proofs.Common.{◌≡◌, ◌⊎◌, inl, inr, ℕ, suc, Bool, true, false, List, [], length, refl, sym, ap, ◌∙◌, arith}
 use Rattle.std.specs.Prelude.{IsUtf8}
 use Rattle.std.specs.Str.{chars, is_utf8}
 use Rattle.std.specs.Str.Lossy.{utf8_valid_len}
@@ -7,8 +7,8 @@ use Rattle.std.proofs.lemmas.Str.{IsUtf8-from_is_utf8, is_utf8-from_IsUtf8}
 use Rattle.term_core.specs.declared.token.Kind.{Kind}
 use Rattle.term_core.specs.declared.token.Token.{Token}
 use Rattle.term_core.specs.Terminals.{IsToken}
-use Rattle.term_core.specs.Tokens.{Tokens, FaultAt, StopsAt, Lexes, IsStuck}
-use Rattle.sparql_lex.proofs.Cutting.{Cutting, Outcome, outcome, Ended, one-outcome, cut-always}
+use Rattle.term_core.specs.Tokens.{Tokens, FaultAt, StopsAt, Lexes}
+use Rattle.sparql_lex.proofs.Cutting.{Cutting, Outcome, Ended, one-outcome, cut-always}
 use Rattle.sparql_lex.proofs.KindStates.{token-read}
 
 abbrev whole : (text : List ℕ) (ts : List Token) → Tokens text ts → Cutting 0 (chars text)

@@ -1,17 +1,16 @@
 -- What the states of language tags read.
-use Rattle.std.proofs.Common.{◌≡◌, ◌≢◌, ◌⊎◌, inl, inr, ℕ, suc, Bool, true, false, List, [], ◌∷◌, ◌++◌, append_assoc, Option, Some, None, refl, sym, subst, ap, ◌∙◌, arith}
-use Rattle.std.specs.Prelude.{◌==◌, ◌||◌, ◌&&◌, codes}
+use Rattle.std.proofs.Common.{◌≡◌, ◌≢◌, ℕ, Bool, true, List, [], ◌∷◌, ◌++◌, Some, refl, sym, subst, ap, ◌∙◌}
+use Rattle.std.specs.Prelude.{◌==◌}
 use Rattle.term_core.specs.declared.token.Kind.{Kind}
 use Rattle.term_core.specs.declared.token.Kind.TheVariants as kinds
-use Rattle.sparql_lex.specs.declared.state.State.{State}
 use Rattle.sparql_lex.specs.declared.state.State.TheVariants as states
 use Rattle.term_core.specs.Characters.{is_letter, is_pn_base, AreAll}
 use Rattle.term_core.specs.Names.{is_alphanumeric, AreSubtags, no_subtag, subtag, IsTag}
 use Rattle.term_core.specs.Terminals.{IsLanguage}
 use Rattle.sparql_lex.specs.declared.state.Tag.{Tag}
 use Rattle.sparql_lex.specs.declared.state.Tag.TheVariants as tags
-use Rattle.sparql_lex.specs.Steps.{kind_of, step, tag_rows}
-use Rattle.sparql_lex.proofs.Bools.{same, all-first, all-one}
+use Rattle.sparql_lex.specs.Steps.{step, tag_rows}
+use Rattle.sparql_lex.proofs.Bools.{all-first, all-one}
 use Rattle.sparql_lex.proofs.NameStates.{some_kind, not-empty, put}
 use Rattle.sparql_lex.proofs.Reading.{reads, read-cases}
 

@@ -1,5 +1,5 @@
 -- A word is found where no prefix begins.
-use Rattle.std.proofs.Common.{◌≡◌, ℕ, zero, suc, ◌+◌, ◌-◌, ◌≤◌, ◌<◌, Bool, true, false, cond, List, [], ◌∷◌, ◌++◌, length, drop, Option, Some, None, refl, sym, subst, ap, ◌∙◌, arith}
+use Rattle.std.proofs.Common.{◌≡◌, ℕ, zero, suc, ◌+◌, ◌-◌, ◌<◌, Bool, true, false, cond, List, [], ◌∷◌, drop, Some, None, refl, subst, ap, ◌∙◌, arith}
 use Rattle.std.specs.Prelude.{◌==◌, ◌&&◌, ◌||◌}
 use Rattle.std.proofs.lemmas.List.{drop-drop}
 use Rattle.term_core.specs.Characters.{is_letter, is_pn}
@@ -9,10 +9,9 @@ use Rattle.sparql_lex.specs.declared.state.State.{State}
 use Rattle.sparql_lex.specs.declared.state.State.TheVariants as states
 use Rattle.sparql_lex.specs.declared.state.Name.TheVariants as names
 use Rattle.sparql_lex.specs.Steps.{step}
-use Rattle.sparql_lex.specs.Scan.{Found, or_found, run, scan, longest}
+use Rattle.sparql_lex.specs.Scan.{Found, run, scan, longest}
 use Rattle.sparql_lex.specs.Names.{ends_prefix, is_name_part, NoPrefix}
-use Rattle.sparql_lex.proofs.Bools.{false_of, same, either, other_than, word-pn, letter-word, letter-pn_base, pn-dot, pn-colon}
-use Rattle.sparql_lex.proofs.Reading.{found_at}
+use Rattle.sparql_lex.proofs.Bools.{same, other_than, word-pn, letter-word, pn-colon}
 
 -- in a prefix, behind a character of a name or behind a dot
 abbrev part_state : Bool → State

@@ -1,5 +1,5 @@
 -- What stands at the front of a text.
-use Rattle.std.specs.Prelude.{◌≡◌, ◌≤◌, ◌<◌, ◌+◌, ℕ, List, [], ◌∷◌, length, take, drop}
+use Rattle.std.specs.Prelude.{◌≤◌, ◌<◌, ◌+◌, ℕ, List, [], ◌∷◌, length, take, drop}
 use Rattle.term_core.specs.Tokens.{Lexes, IsStuck, width, token}
 use Rattle.term_core.specs.declared.token.Token.{Token}
 use Rattle.sparql_lex.specs.declared.lexing.Front.{Front}

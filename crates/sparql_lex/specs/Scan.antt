@@ -1,5 +1,5 @@
 -- The longest token that begins a text, read a character at a time.
-use Rattle.std.specs.Prelude.{◌≡◌, suc, ℕ, Bool, cond, List, [], ◌∷◌, Option, Some, None}
+use Rattle.std.specs.Prelude.{suc, ℕ, Bool, cond, List, [], ◌∷◌, Option, Some, None}
 use Rattle.term_core.specs.declared.token.Kind.{Kind}
 use Rattle.sparql_lex.specs.declared.state.State.{State}
 use Rattle.sparql_lex.specs.declared.state.State.TheVariants.{Start}

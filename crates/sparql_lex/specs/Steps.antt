@@ -1,9 +1,9 @@
 -- The states of a token that is read a character at a time, and what leads from one to the next.
-use Rattle.std.specs.Prelude.{◌≡◌, ◌+◌, ◌-◌, ◌*◌, ℕ, Bool, true, false, ◌||◌, ◌&&◌, ◌==◌, not, nat_lt, codes, cond}
+use Rattle.std.specs.Prelude.{◌+◌, ◌-◌, ◌*◌, ℕ, Bool, true, false, ◌||◌, ◌&&◌, ◌==◌, not, nat_lt, codes, cond}
 use Rattle.std.specs.Prelude.{List, [], ◌∷◌, Option, Some, None}
 use Rattle.std.specs.Char.{digit_value}
 use lib.Utf8.{scalar}
-use Rattle.term_core.specs.Characters.{is_among, is_digit, is_letter, is_hex, is_iri, is_pn_base, is_pn_u, is_pn}
+use Rattle.term_core.specs.Characters.{is_among, is_digit, is_letter, is_hex, is_iri, is_pn_base, is_pn}
 use Rattle.term_core.specs.Names.{is_alphanumeric}
 use Rattle.term_core.specs.Terminals.{is_local_escape, is_local_part, is_label_first, is_variable_part, is_word_part}
 use Rattle.term_core.specs.Terminals.{is_quote, is_plain_in, is_long_plain}

@@ -273,20 +273,25 @@ fn cuts_numbers_and_comments(rt: HostRuntime) -> Result<(), AllocError> {
 #[test]
 fn reads_long_texts(rt: HostRuntime) -> Result<(), AllocError> {
     let alloc = rt.alloc();
-    let table: [(&[u8], &[u8], Result<usize, LexFault>); 9] = [
-        (b"", b"a.", Ok(262_144)),
-        (b"", b"a", Ok(1)),
-        (b"", b"<", Ok(262_144)),
-        (b"", b"<=", Ok(131_072)),
-        (b":a", b"..", Ok(262_143)),
-        (b"", b"\"a \"", Ok(65_536)),
-        (b"\"\"\"", b"a ", Err(LexFault::Lex { at: 2 })),
-        (b"\"\"\"", b"\\\"\"\"x", Err(LexFault::Lex { at: 262_141 })),
-        (b"#", b"\"\"\"", Ok(0)),
+    let table: [(&[u8], u32, &[u8], Result<usize, LexFault>); 9] = [
+        (b"", 131_072, b"a.", Ok(262_144)),
+        (b"", 262_144, b"a", Ok(1)),
+        (b"", 262_144, b"<", Ok(262_144)),
+        (b"", 131_072, b"<=", Ok(131_072)),
+        (b":a", 131_071, b"..", Ok(262_143)),
+        (b"", 65_536, b"\"a \"", Ok(65_536)),
+        (b"\"\"\"", 131_070, b"a ", Err(LexFault::Lex { at: 2 })),
+        (
+            b"\"\"\"",
+            52_428,
+            b"\\\"\"\"x",
+            Err(LexFault::Lex { at: 262_141 }),
+        ),
+        (b"#", 87_381, b"\"\"\"", Ok(0)),
     ];
-    for (front, piece, expected) in table {
+    for (front, times, piece, expected) in table {
         let mut text = Vec::from_slice(alloc, front)?;
-        while text.len() + piece.len() <= 262_144 {
+        for _ in 0..times {
             text.extend_from_slice(piece)?;
         }
         let found = tokens(alloc, text.as_slice()).map(|found| found.len());

@@ -1,5 +1,4 @@
-use Rattle.std.proofs.Common.{◌≡◌, ◌≤◌, ◌<◌, true, false, length, drop, length-drop, ◌∷◌, sym, ◌∙◌, arith}
-use Rattle.term_core.specs.Tokens.{is_space}
+use Rattle.std.proofs.Common.{drop, length-drop, sym, ◌∙◌, arith}
 use Rattle.sparql_lex.proofs.Cuts.{front-next}
 use Rattle.sparql_lex.proofs.Places.{Begun, at-space, at-comment, at-nothing}
 use Rattle.sparql_lex.proofs.lexing.front_at.Goals as goal

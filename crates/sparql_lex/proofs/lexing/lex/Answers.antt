@@ -1,6 +1,6 @@
-use Rattle.std.proofs.Common.{◌≡◌, ◌≤◌, ◌<◌, ◌+◌, length, take, drop, length-drop, [], ◌∷◌, ◌++◌, refl, sym, subst, ap, ◌∙◌, arith}
+use Rattle.std.proofs.Common.{◌≡◌, ◌+◌, drop, length-drop, [], ◌∷◌, refl, sym, subst, ap, arith}
 use Rattle.std.proofs.lemmas.List.{append-nil}
-use Rattle.term_core.specs.Tokens.{Lexes, stop, width, token}
+use Rattle.term_core.specs.Tokens.{Lexes, stop, token}
 use Rattle.sparql_lex.proofs.Places.{width-on, goes-on}
 use Rattle.sparql_lex.proofs.Widths.{width-parts}
 use Rattle.sparql_lex.proofs.lexing.lex.Goals as goal

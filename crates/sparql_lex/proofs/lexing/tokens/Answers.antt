@@ -1,5 +1,4 @@
-use Rattle.std.proofs.Common.{◌≡◌, ◌≤◌, ◌<◌, ◌*◌, length, arith}
-use Rattle.term_core.specs.Tokens.{width}
+use Rattle.std.proofs.Common.{arith}
 use Rattle.sparql_lex.proofs.Widths.{width-small}
 use Rattle.sparql_lex.proofs.lexing.tokens.Goals as goal
 

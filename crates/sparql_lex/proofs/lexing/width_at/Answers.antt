@@ -1,6 +1,6 @@
-use Rattle.std.proofs.Common.{◌≡◌, ◌+◌, ◌<◌, ◌≤◌, length, take, drop, ap, arith}
+use Rattle.std.proofs.Common.{ap, arith}
 use Rattle.term_core.specs.Tokens.{width}
-use Rattle.sparql_lex.proofs.Widths.{width-more, width-parts}
+use Rattle.sparql_lex.proofs.Widths.{width-parts}
 use Rattle.sparql_lex.proofs.lexing.width_at.Goals as goal
 
 pub width_of-requires : goal.width_of-requires

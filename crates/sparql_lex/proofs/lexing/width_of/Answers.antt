@@ -1,7 +1,6 @@
-use Rattle.std.proofs.Common.{◌≡◌, ◌+◌, ◌<◌, ◌≤◌, suc, length, take, get_or, add-one, arith, ap, sym, ◌∙◌}
+use Rattle.std.proofs.Common.{◌≡◌, suc, length, get_or, add-one, arith, ap}
 use Rattle.std.specs.Prelude.{encode_utf8}
 use Rattle.std.proofs.lemmas.Grind.{common_steps}
-use Rattle.term_core.specs.Tokens.{width}
 use Rattle.sparql_lex.proofs.Widths.{width-more, width-parts}
 use Rattle.sparql_lex.proofs.lexing.width_of.Goals as goal
 

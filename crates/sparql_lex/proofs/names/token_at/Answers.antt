@@ -1,7 +1,7 @@
-use Rattle.std.proofs.Common.{◌≡◌, ◌≤◌, ◌<◌, ◌+◌, true, false, length, drop, length-drop, ◌∷◌, sym, ap, ◌∙◌, subst, arith}
+use Rattle.std.proofs.Common.{◌≡◌, true, false, drop, length-drop, sym, ap, ◌∙◌, arith}
 use Rattle.term_core.specs.Characters.{is_letter}
-use Rattle.sparql_lex.specs.Names.{NoPrefix, ends_prefix, is_name_part}
-use Rattle.sparql_lex.specs.Scan.{run, longest}
+use Rattle.sparql_lex.specs.Names.{ends_prefix, is_name_part}
+use Rattle.sparql_lex.specs.Scan.{run}
 use Rattle.sparql_lex.proofs.Places.{Begun, at-word}
 use Rattle.sparql_lex.proofs.WordRuns.{known-run, known-at}
 use Rattle.sparql_lex.proofs.names.token_at.Goals as goal

@@ -1,4 +1,4 @@
-use Rattle.std.proofs.Common.{◌≡◌, ap, sym, ◌∙◌}
+use Rattle.std.proofs.Common.{ap, sym, ◌∙◌}
 use Rattle.sparql_lex.specs.Steps.{step}
 use Rattle.sparql_lex.proofs.steps.step.Goals as goal
 
