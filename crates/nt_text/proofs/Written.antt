@@ -171,7 +171,7 @@ iri_text : (iri : List ℕ) (is : IsSpelledIri iri) → IsLineText (60 ∷ (is.c
 iri_text iri is =
     let body : IsLineText is.characters iri = record { is_text = is.is_text; in_line = lines_of is_iri refl refl is.characters is.of_class } in
     line_both (60 ∷ []) (is.characters ++ 62 ∷ []) (60 ∷ []) (iri ++ 62 ∷ []) (line_small (60 ∷ []) refl refl)
-      (line_both is.characters (62 ∷ []) iri (62 ∷ []) body (line_small (62 ∷ []) refl refl))
+    (line_both is.characters (62 ∷ []) iri (62 ∷ []) body (line_small (62 ∷ []) refl refl))
 
 iri_reads : (iri : List ℕ) (is : IsSpelledIri iri) (more : List ℕ) → IsIri ((60 ∷ (is.characters ++ 62 ∷ [])) ++ more) iri more
 iri_reads iri is more = record {
@@ -247,7 +247,7 @@ typed_written datatype is apart other =
     record {
       characters = 94 ∷ 94 ∷ 60 ∷ (is.characters ++ 62 ∷ []);
       text = subst (IsLineText (94 ∷ 94 ∷ 60 ∷ (is.characters ++ 62 ∷ []))) (sym written)
-        (line_both (94 ∷ 94 ∷ []) (60 ∷ (is.characters ++ 62 ∷ [])) (94 ∷ 94 ∷ []) (60 ∷ (datatype ++ 62 ∷ [])) (line_small (94 ∷ 94 ∷ []) refl refl) (iri_text datatype is));
+          (line_both (94 ∷ 94 ∷ []) (60 ∷ (is.characters ++ 62 ∷ [])) (94 ∷ 94 ∷ []) (60 ∷ (datatype ++ 62 ∷ [])) (line_small (94 ∷ 94 ∷ []) refl refl) (iri_text datatype is));
       reads = typed_reads datatype is apart;
     }
 
@@ -305,7 +305,7 @@ literal_written lexical datatype lang cs is kind =
       text = line_both (34 ∷ []) (flat_map escaped cs ++ 34 ∷ kind.characters) (34 ∷ []) (flat_map escaped lexical ++ 34 ∷ kind_text datatype lang) (line_small (34 ∷ []) refl refl) behind;
       begun = λ more. refl;
       reads = λ more. subst (λ t. IsLiteral t lexical datatype lang (32 ∷ more)) (sym (ap (λ t. 34 ∷ t) (append_assoc (flat_map escaped cs) (34 ∷ kind.characters) (32 ∷ more))))
-        (kind.reads (34 ∷ (flat_map escaped cs ++ 34 ∷ (kind.characters ++ 32 ∷ more))) lexical more (string_reads cs lexical (kind.characters ++ 32 ∷ more) is));
+          (kind.reads (34 ∷ (flat_map escaped cs ++ 34 ∷ (kind.characters ++ 32 ∷ more))) lexical more (string_reads cs lexical (kind.characters ++ 32 ∷ more) is));
     }
 
 term_written : (t : Term) → IsSpelled t → IsWritten t

@@ -114,7 +114,7 @@ escaped_all [] scalars = text_small [] refl
 escaped_all (c ∷ cs) scalars =
     let a = scalars_parts c cs scalars in
     subst (IsTextOf (escaped c ++ flat_map escaped cs)) (sym (flat_map-append escaped (encode c) (encode_utf8_all cs)))
-      (text_both (escaped c) (flat_map escaped cs) (flat_map escaped (encode c)) (flat_map escaped (encode_utf8_all cs)) (one_escaped c a.0) (escaped_all cs a.1))
+    (text_both (escaped c) (flat_map escaped cs) (flat_map escaped (encode c)) (flat_map escaped (encode_utf8_all cs)) (one_escaped c a.0) (escaped_all cs a.1))
 
 -- the escapes of a text are a text
 pub text_escaped : (cs xs : List ℕ) → IsTextOf cs xs → IsTextOf (flat_map escaped cs) (flat_map escaped xs)
@@ -152,7 +152,7 @@ blank_utf8 label h = IsUtf8-append (95 ∷ 58 ∷ []) label (small_utf8 (95 ∷ 
 pub literal_utf8 : (lexical datatype lang : List ℕ) → IsUtf8 lexical → IsUtf8 datatype → IsUtf8 lang → IsUtf8 (term_text (terms.Literal lexical datatype lang))
 literal_utf8 lexical datatype lang hx hd hl =
     between_utf8 (34 ∷ []) (flat_map escaped lexical) (34 ∷ kind_text datatype lang) refl (escaped_utf8 lexical hx)
-      (IsUtf8-append (34 ∷ []) (kind_text datatype lang) (small_utf8 (34 ∷ []) refl) (kind_utf8 datatype lang hd hl))
+    (IsUtf8-append (34 ∷ []) (kind_text datatype lang) (small_utf8 (34 ∷ []) refl) (kind_utf8 datatype lang hd hl))
 
 pub triple_utf8 : (t : Triple) → IsUtf8 (term_text t.subject) → IsUtf8 (term_text t.predicate) → IsUtf8 (term_text t.object) → IsUtf8 (triple_text t)
 triple_utf8 t hs hp ho =
@@ -160,4 +160,4 @@ triple_utf8 t hs hp ho =
     let object = IsUtf8-append (term_text t.object) (32 ∷ 46 ∷ 10 ∷ []) ho (small_utf8 (32 ∷ 46 ∷ 10 ∷ []) refl) in
     let predicate = IsUtf8-append (term_text t.predicate) (32 ∷ (term_text t.object ++ 32 ∷ 46 ∷ 10 ∷ [])) hp (IsUtf8-append (32 ∷ []) (term_text t.object ++ 32 ∷ 46 ∷ 10 ∷ []) blank object) in
     IsUtf8-append (term_text t.subject) (32 ∷ (term_text t.predicate ++ 32 ∷ (term_text t.object ++ 32 ∷ 46 ∷ 10 ∷ []))) hs
-      (IsUtf8-append (32 ∷ []) (term_text t.predicate ++ 32 ∷ (term_text t.object ++ 32 ∷ 46 ∷ 10 ∷ [])) blank predicate)
+    (IsUtf8-append (32 ∷ []) (term_text t.predicate ++ 32 ∷ (term_text t.object ++ 32 ∷ 46 ∷ 10 ∷ [])) blank predicate)
