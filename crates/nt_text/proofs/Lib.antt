@@ -12,3 +12,5 @@ pub mod TermLaws
 pub mod LineLaws
 pub mod Judged
 pub mod SpelledTerms
+pub mod WrittenText
+pub mod Written

@@ -31,10 +31,10 @@ Outcome = Result (List Triple) DataFault
 
 -- ---- texts of scalar values
 
-scalars_parts : (c : ℕ) (text : List ℕ) → all_scalars (c ∷ text) ≡ true → IsScalar c × (all_scalars text ≡ true)
+pub scalars_parts : (c : ℕ) (text : List ℕ) → all_scalars (c ∷ text) ≡ true → IsScalar c × (all_scalars text ≡ true)
 scalars_parts c text h = and_parts _ (all_scalars text) h
 
-scalars_both : (xs ys : List ℕ) → all_scalars xs ≡ true → all_scalars ys ≡ true → all_scalars (xs ++ ys) ≡ true
+pub scalars_both : (xs ys : List ℕ) → all_scalars xs ≡ true → all_scalars ys ≡ true → all_scalars (xs ++ ys) ≡ true
 scalars_both [] ys hx hy = hy
 scalars_both (x ∷ xs) ys hx hy = let a = scalars_parts x xs hx in rw a.0 (scalars_both xs ys a.1 hy)
 

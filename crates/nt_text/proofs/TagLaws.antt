@@ -187,10 +187,10 @@ tag_is c more letter =
 
 -- ---- tags are ASCII
 
-abbrev is_small : ℕ → Bool
+abbrev pub is_small : ℕ → Bool
 is_small c = nat_lt c 128
 
-weaker : (p q : ℕ → Bool) → ((c : ℕ) → p c ≡ true → q c ≡ true) → (xs : List ℕ) → AreAll p xs → AreAll q xs
+pub weaker : (p q : ℕ → Bool) → ((c : ℕ) → p c ≡ true → q c ≡ true) → (xs : List ℕ) → AreAll p xs → AreAll q xs
 weaker p q h [] all = refl
 weaker p q h (x ∷ xs) all = let a = all_parts p x xs all in rw (h x a.0) (weaker p q h xs a.1)
 

@@ -1,7 +1,10 @@
 //! Laws of the grammar. Each is the contract of a function that does nothing.
 
-ghost use Rattle.std.specs.Prelude.{◌≡◌, ◌≢◌, List, ℕ};
+ghost use Rattle.std.specs.Prelude.{◌≡◌, ◌≢◌, List, [], ◌∷◌, ℕ};
 ghost use Rattle.term_core.specs.declared.term.Triple.{Triple};
+ghost use Rattle.term_core.specs.Order.{IsAllowed};
+ghost use Rattle.term_core.specs.Spelling.{AreSpelled};
+ghost use Rattle.term_core.specs.Texts.{triple_text};
 ghost use Rattle.nt_text.specs.declared.fault.DataFault.{DataFault as Faults};
 ghost use Rattle.nt_text.specs.declared.fault.DataFault.TheVariants as faults;
 ghost use Rattle.nt_text.specs.Grammar.{IsDocument};
@@ -16,4 +19,9 @@ pub fn documents_have_one_answer()
         WhyRefused bytes fault → WhyRefused bytes other → fault ≡ other }
     ensures either { (bytes : List ℕ) (triples : List Triple) (fault : Faults) → fault ≢ faults.Memory →
         IsDocument bytes triples → IsWithinLimits bytes triples → WhyRefused bytes fault → ⊥ }
+{}
+
+/// The line of a triple of RDF whose terms N-Triples can spell is a document with that triple alone.
+pub fn written_triples_read_back()
+    ensures { (t : Triple) → IsAllowed t → AreSpelled t → IsDocument (triple_text t) (t ∷ []) }
 {}

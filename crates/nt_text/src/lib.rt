@@ -1,4 +1,4 @@
-//! N-Triples text (RDF 1.1 N-Triples): its grammar, and a reader of documents.
+//! N-Triples text (RDF 1.1 N-Triples): its grammar, a reader of documents, and a writer of triples.
 #![tactic(auto)]
 
 mod classes;
@@ -11,7 +11,11 @@ mod terminals;
 #[cfg(test)]
 mod tests;
 mod triples;
+mod writing;
+#[cfg(test)]
+mod writing_tests;
 
 pub use document::{DOCUMENT_LIMIT, read_document};
 pub use fault::DataFault;
 pub use lines::{TERM_LIMIT, TRIPLE_LIMIT};
+pub use writing::{push_line, push_term, push_triple, write_term, write_triple};

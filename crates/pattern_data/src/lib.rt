@@ -7,9 +7,7 @@ mod table;
 mod table_id;
 #[cfg(test)]
 mod table_tests;
-mod term_text;
 
 pub use range::{Range, range_of};
 pub use table::Table;
 pub use table_id::data_id;
-pub use term_text::{push_line, push_term, push_triple};

@@ -6,7 +6,8 @@ ghost use Rattle.term_core.specs.Texts.{triple_text};
 ghost use Rattle.plan_tree.specs.Spelling as plan;
 ghost use Rattle.pattern_data.specs.Table.{IsBelow, AreBelow, IsTable, terms_in, ids_in, decode};
 
-use crate::{Table, push_line};
+use crate::Table;
+use nt_text::push_line;
 use sha2::{Digest, Sha256};
 use std::alloc::Global;
 use term_core::{IdTriple, Memory};

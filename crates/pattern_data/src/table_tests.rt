@@ -1,4 +1,4 @@
-use crate::{Range, Table, data_id, push_term, push_triple, range_of};
+use crate::{Range, Table, data_id, range_of};
 use std::alloc::Global;
 use std::test::Fail;
 use term_core::{IdTriple, Pattern, Place, Term, Text, TextFault, Triple};
@@ -165,32 +165,5 @@ fn names_data(rt: HostRuntime) -> Result<(), Fail> {
         data_id(rt.alloc(), &table)?,
         *b"\x19\xba\xa6\xc5\x65\xd4\xd9\x19\x62\xe2\x9f\x15\x1e\x6f\xb4\x94\x8c\x70\x5b\xf7\xe5\x83\x60\xbc\x66\xac\x2e\xdb\xf5\x31\x78\xd3"
     );
-    Ok(())
-}
-
-// RDF 1.1 N-Triples, section 7: STRING_LITERAL_QUOTE, ECHAR and LANGTAG.
-#[test]
-fn writes_literals(rt: HostRuntime) -> Result<(), Fail> {
-    let lexical = text(rt.alloc(), "a\"\\\n\r\t")?;
-    let datatype = text(rt.alloc(), "l")?;
-    let lang = text(rt.alloc(), "en-GB")?;
-    let mut out = Vec::new(rt.alloc());
-    push_term(
-        &mut out,
-        &Term::Literal {
-            lexical,
-            datatype,
-            lang,
-        },
-    )?;
-    assert_eq!(rt; out.as_slice(), b"\"a\\\"\\\\\\n\\r\t\"@en-GB".as_slice());
-    Ok(())
-}
-
-#[test]
-fn writes_triples(rt: HostRuntime) -> Result<(), Fail> {
-    let mut out = Vec::new(rt.alloc());
-    push_triple(&mut out, &triple(rt.alloc(), "a", "p", "b")?)?;
-    assert_eq!(rt; out.as_slice(), b"<a> <p> <b> .\n".as_slice());
     Ok(())
 }

@@ -13,7 +13,8 @@ ghost use Rattle.pattern_page.specs.StateReading.{state_of};
 ghost use Rattle.pattern_page.specs.PagesOf.{IsPart, entry_at, IsWithin, IsSound, HasData, HasTriples, GivesAt, IsMore, cursor_state, saved_at, IsBehind, IsNamed, Loads, Starts, Gives, IsStretch, IsPageFrom, Answers};
 
 use crate::state::{State, parse_state, push_state};
-use pattern_data::{Range, Table, data_id, push_term, range_of};
+use nt_text::push_term;
+use pattern_data::{Range, Table, data_id, range_of};
 use sha2::{Digest, Sha256};
 use std::alloc::Global;
 use term_core::{IdTriple, Items, Memory, Pattern, Place, Row, Term, Text, TextFault};

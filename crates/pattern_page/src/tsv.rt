@@ -4,7 +4,7 @@ ghost use Rattle.std.specs.Prelude.{◌≡◌, ◌++◌, ◌∷◌, flat_map, On
 ghost use Rattle.term_core.specs.Mappings.{value};
 ghost use Rattle.pattern_page.specs.Results.{tab_escaped, cell, tabbed, header, line};
 
-use pattern_data::push_term;
+use nt_text::push_term;
 use term_core::{Memory, Row, Term, Text};
 
 /// Text with each tab written `\t`.

@@ -1,9 +1,10 @@
 //! Terms and triples written as text (RDF 1.1 N-Triples, section 2).
 
-ghost use Rattle.std.specs.Prelude.{◌≡◌, ◌++◌, [], flat_map, OnOk};
-ghost use Rattle.std.specs.Str.{bytes_eq};
+ghost use Rattle.std.specs.Prelude.{◌≡◌, ◌++◌, [], flat_map, IfOk, OnOk};
+ghost use Rattle.std.specs.Str.{IsUtf8, bytes_eq};
 ghost use Rattle.term_core.specs.Texts.{escaped, xsd_string, kind_text, term_text, triple_text};
 
+use std::alloc::Global;
 use term_core::{Memory, Term, Text, Triple};
 
 /// The datatype of plain strings (XML Schema 1.1 Datatypes, section 3.3.1), which text leaves out.
@@ -127,4 +128,60 @@ pub fn push_triple(out: &mut Vec<u8>, triple: &Triple) -> Result<(), Memory>
     ensures { OnOk result (out.new.items ≡ out.old.items ++ triple_text triple.now) }
 {
     push_line(out, &triple.subject, &triple.predicate, &triple.object)
+}
+
+/// The text of bytes that are UTF-8. They are taken, and not copied.
+fn text_of(bytes: Vec<u8>) -> Text
+    requires { IsUtf8 bytes.items }
+    ensures { result ≡ bytes.items }
+{
+    match String::from_utf8(bytes) {
+        Ok(text) => Text::from_string(text),
+        Err(_) => unreachable!(),
+    }
+}
+
+/// A term's text is UTF-8, as the texts in it are. This does nothing.
+fn term_is_text(term: &Term)
+    ensures { IsUtf8 (term_text term.now) }
+{
+    match term {
+        Term::Iri(iri) => {
+            let _iri = iri.bytes();
+        }
+        Term::Blank(label) => {
+            let _label = label.bytes();
+        }
+        Term::Literal {
+            lexical,
+            datatype,
+            lang,
+        } => {
+            let _lexical = lexical.bytes();
+            let _datatype = datatype.bytes();
+            let _lang = lang.bytes();
+        }
+    }
+}
+
+/// A term's text, as `push_term` writes it, in room of its own.
+pub fn write_term(alloc: Global, term: &Term) -> Result<Text, Memory>
+    ensures { IfOk result (λ text. text ≡ term_text term.now) }
+{
+    let mut out = Vec::new(alloc);
+    push_term(&mut out, term)?;
+    term_is_text(term);
+    Ok(text_of(out))
+}
+
+/// A triple's line, as `push_triple` writes it, in room of its own.
+pub fn write_triple(alloc: Global, triple: &Triple) -> Result<Text, Memory>
+    ensures { IfOk result (λ text. text ≡ triple_text triple.now) }
+{
+    let mut out = Vec::new(alloc);
+    push_triple(&mut out, triple)?;
+    term_is_text(&triple.subject);
+    term_is_text(&triple.predicate);
+    term_is_text(&triple.object);
+    Ok(text_of(out))
 }
