@@ -1,5 +1,5 @@
 -- Where a text is cut: between characters, and by a class that holds all or none of the characters from U+0080 on.
-use Rattle.std.proofs.Common.{◌≡◌, ℕ, ◌<◌, ◌≤◌, ◌+◌, ◌-◌, Bool, true, false, ◌&&◌, List, [], ◌∷◌, ◌++◌, cond, get_or, length, take, drop, inl, inr, ◌⊎◌, Some, eqb, refl, sym, ap, subst, ◌∙◌, arith, not}
+use Rattle.std.proofs.Common.{◌≡◌, ℕ, ◌<◌, ◌≤◌, ◌+◌, ◌-◌, Bool, true, false, ◌&&◌, List, [], ◌∷◌, ◌++◌, get_or, length, take, drop, inl, inr, ◌⊎◌, Some, eqb, refl, sym, ap, subst, ◌∙◌, arith, not}
 use Rattle.std.proofs.Math.Utf8.{encode}
 use Rattle.std.specs.Str.{IsUtf8, IsCharBoundary, chars, all_scalars, encode_utf8_all}
 use Rattle.std.specs.List.{list_all, slice_range}

@@ -1,13 +1,13 @@
 -- Escapes: what is read is of the grammar, and what is of the grammar is read.
-use Rattle.std.proofs.Common.{◌≡◌, ℕ, zero, suc, ◌<◌, ◌≤◌, ◌+◌, ◌*◌, Bool, true, false, cond, ◌&&◌, ◌||◌, not, nat_lt, List, [], ◌∷◌, ◌++◌, ◌⊎◌, inl, inr, length, Option, Some, None, eqb, refl, sym, ap, ◌∙◌, subst, arith, append_assoc, length-append, take, drop}
-use Rattle.std.proofs.lemmas.Bool.{eqb-true, eq-eqb, and_parts, or_cases, ltb-true, ltb-false, not-true}
+use Rattle.std.proofs.Common.{◌≡◌, ℕ, ◌<◌, ◌≤◌, ◌+◌, ◌*◌, Bool, true, false, cond, ◌&&◌, not, nat_lt, List, [], ◌∷◌, ◌++◌, inl, inr, length, Option, Some, None, eqb, refl, sym, ap, ◌∙◌, subst, arith, append_assoc, length-append, take, drop}
+use Rattle.std.proofs.lemmas.Bool.{eqb-true, and_parts, or_cases, ltb-true, ltb-false, not-true}
 use Rattle.std.proofs.lemmas.List.{take-append-drop, length-take, length-drop}
 use Rattle.std.proofs.Math.Utf8.{low_scalar, scalar_cases}
 use Rattle.std.proofs.lemmas.Bool.Decides.{nat_tests}
 use Rattle.std.specs.List.{list_all}
 use Rattle.std.specs.Char.{IsScalar, digit_value}
-use Rattle.term_core.specs.Characters.{is_hex, is_iri, is_plain, AreAll}
-use Rattle.term_core.specs.Escapes.{IsUchar, IsEchar, IsIriEscape, IsStringEscape, echar_value, hex_number, hex_onto}
+use Rattle.term_core.specs.Characters.{is_hex, is_iri, AreAll}
+use Rattle.term_core.specs.Escapes.{IsUchar, IsIriEscape, IsStringEscape, echar_value, hex_number, hex_onto}
 use Rattle.nt_text.specs.declared.escapes.Quoted.{Quoted}
 use Rattle.nt_text.specs.declared.escapes.Quoted.TheVariants as quoted
 use Rattle.nt_text.specs.Reading.{◌>>=◌, expect, head_at, digit_at, four_at, eight_at, is_scalar, scalar_of, uchar_by, iri_escape, echar_or, escape_by, escape_at}

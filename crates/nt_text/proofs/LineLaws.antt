@@ -1,15 +1,15 @@
 -- Triples and lines: what is read is of the grammar, and what is of the grammar is read.
-use Rattle.std.proofs.Common.{◌≡◌, ℕ, Bool, true, false, cond, List, [], ◌∷◌, ◌++◌, ◌⊎◌, inl, inr, Option, Some, None, eqb, refl, sym, ap, subst, ◌∙◌}
+use Rattle.std.proofs.Common.{◌≡◌, ℕ, Bool, true, false, cond, List, [], ◌∷◌, inl, inr, Option, Some, None, eqb, refl, sym, ap, subst, ◌∙◌}
 use Rattle.std.proofs.lemmas.Bool.{eqb-true}
 use Rattle.term_core.specs.declared.term.Term.{Term}
 use Rattle.term_core.specs.declared.term.Term.TheVariants as terms
 use Rattle.term_core.specs.declared.term.Triple.{Triple}
 use Rattle.term_core.specs.Characters.{after, begins}
 use Rattle.nt_text.specs.Characters.{is_blank}
-use Rattle.nt_text.specs.Grammar.{IsSubject, IsPredicate, IsSpaced, IsTriple, IsEnd, IsLine}
+use Rattle.nt_text.specs.Grammar.{IsSubject, IsPredicate, IsTriple, IsEnd, IsLine}
 use Rattle.nt_text.specs.Reading.{◌>>=◌, expect, iri_at, subject_at, object_at, triple_at, ends, line_at}
 use Rattle.nt_text.proofs.Steps.{bind_some, some_is, expect_is, spaced_after, skipped}
-use Rattle.nt_text.proofs.TermLaws.{Stops, iri_sound, iri_complete, subject_sound, subject_complete, object_sound, object_complete}
+use Rattle.nt_text.proofs.TermLaws.{iri_sound, iri_complete, subject_sound, subject_complete, object_sound, object_complete}
 
 abbrev Read : Type 0
 Read = List ℕ × List ℕ

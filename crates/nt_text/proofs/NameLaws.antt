@@ -1,14 +1,12 @@
 -- Labels: the longest that stands at the front of a text is the one that is read.
-use Rattle.std.proofs.Common.{◌≡◌, ℕ, zero, suc, ◌<◌, ◌≤◌, ◌+◌, ◌-◌, Bool, true, false, cond, ◌&&◌, ◌||◌, not, List, [], ◌∷◌, ◌++◌, ◌⊎◌, inl, inr, length, take, drop, Option, Some, None, eqb, refl, sym, ap, ◌∙◌, subst, arith, append_assoc, length-append}
+use Rattle.std.proofs.Common.{◌≡◌, ℕ, ◌≤◌, ◌-◌, Bool, true, false, cond, ◌||◌, List, [], ◌∷◌, ◌++◌, length, take, drop, Some, eqb, refl, sym, ap, ◌∙◌, subst, arith, append_assoc, length-append}
 use Rattle.std.proofs.Math.Seq.{take-append_seam, drop-append_seam}
-use Rattle.std.proofs.lemmas.Bool.{and_parts, or_cases}
-use Rattle.std.specs.List.{list_all}
 use Rattle.std.specs.Str.{encode_utf8_all}
 use Rattle.term_core.specs.Characters.{AreAll}
 use Rattle.term_core.specs.Names.{IsDotted, IsLabel, is_label_first, is_label_part}
 use Rattle.nt_text.specs.Grammar.{IsLongest}
-use Rattle.nt_text.specs.Reading.{head_at, past_name, before, name_at}
-use Rattle.nt_text.proofs.Steps.{guard_some, some_is}
+use Rattle.nt_text.specs.Reading.{past_name, before, name_at}
+use Rattle.nt_text.proofs.Steps.{guard_some}
 use Rattle.nt_text.proofs.EscapeLaws.{all_parts, all_both}
 
 -- ---- cuts of a text

@@ -1,5 +1,5 @@
 -- Texts with escapes: how reading goes on behind an escape.
-use Rattle.std.proofs.Common.{◌≡◌, ℕ, zero, suc, ◌<◌, ◌≤◌, ◌+◌, Bool, true, false, cond, ◌||◌, not, nat_lt, List, [], ◌∷◌, ◌++◌, length, Option, Some, None, eqb, refl, sym, ap, ◌∙◌, subst, arith, append_assoc, length-append}
+use Rattle.std.proofs.Common.{◌≡◌, ℕ, zero, suc, ◌<◌, ◌≤◌, Bool, true, false, cond, List, [], ◌∷◌, ◌++◌, length, Option, Some, None, eqb, refl, sym, ap, ◌∙◌, arith, append_assoc, length-append}
 use Rattle.std.specs.Str.{encode_utf8_all, chars}
 use Rattle.std.proofs.Math.Utf8.{encode}
 use Rattle.std.proofs.lemmas.Str.{encodes-append, encodes-chars}
@@ -9,7 +9,7 @@ use Rattle.term_core.specs.Characters.{is_hex, is_iri, front, after}
 use Rattle.term_core.specs.Escapes.{echar_value}
 use Rattle.nt_text.specs.declared.escapes.Quoted.{Quoted}
 use Rattle.nt_text.specs.declared.escapes.Quoted.TheVariants as quoted
-use Rattle.nt_text.specs.Reading.{◌>>=◌, expect, head_at, digit_at, four_at, eight_at, is_scalar, scalar_of, uchar_by, iri_escape, echar_or, escape_by, escape_at, plain_in, onto, spelled_on, spelled_in, spelled_at}
+use Rattle.nt_text.specs.Reading.{◌>>=◌, head_at, digit_at, four_at, eight_at, is_scalar, scalar_of, uchar_by, echar_or, escape_by, escape_at, plain_in, onto, spelled_on, spelled_in, spelled_at}
 use Rattle.nt_text.proofs.Cut.{parts}
 
 -- what was read leaves less of the text

@@ -1,7 +1,7 @@
 -- Texts with escapes: what they spell is what is read.
-use Rattle.std.proofs.Common.{◌≡◌, ℕ, zero, suc, ◌<◌, ◌≤◌, ◌+◌, Bool, true, false, cond, List, [], ◌∷◌, ◌++◌, length, Option, Some, None, eqb, refl, sym, ap, ◌∙◌, subst, arith, append_assoc}
-use Rattle.term_core.specs.Characters.{is_iri, is_plain, front, after, begins, AreAll}
-use Rattle.term_core.specs.Escapes.{IsEscaped, IsIriEscape, IsStringEscape}
+use Rattle.std.proofs.Common.{◌≡◌, ℕ, zero, suc, true, false, List, [], ◌∷◌, ◌++◌, length, Option, Some, None, eqb, refl, sym, ap, ◌∙◌, append_assoc}
+use Rattle.term_core.specs.Characters.{front, after, AreAll}
+use Rattle.term_core.specs.Escapes.{IsEscaped}
 use Rattle.term_core.specs.Escapes.IsEscaped.{nothing, character, escape}
 use Rattle.nt_text.specs.declared.escapes.Quoted.{Quoted}
 use Rattle.nt_text.specs.declared.escapes.Quoted.TheVariants as quoted

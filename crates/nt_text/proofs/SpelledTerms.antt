@@ -1,17 +1,17 @@
 -- The terms of a document are terms that N-Triples can spell, and its triples are triples of RDF.
-use Rattle.std.proofs.Common.{◌≡◌, ◌≢◌, cond, Option, Some, None, ℕ, ◌+◌, Bool, true, false, ◌&&◌, ◌⊎◌, inl, inr, List, [], ◌∷◌, ◌++◌, length, map, eqb, refl, sym, ap, ◌∙◌, subst, arith, Result, Ok, Err, IfOk}
+use Rattle.std.proofs.Common.{◌≡◌, ◌≢◌, cond, Option, Some, None, ℕ, Bool, true, false, inl, inr, List, [], ◌∷◌, ◌++◌, length, map, eqb, refl, sym, ap, ◌∙◌, subst, arith, Result, Ok, Err, IfOk}
 use Rattle.std.proofs.lemmas.Bool.{and_parts}
 use Rattle.std.proofs.lemmas.Bool.Decides.{nat_tests}
 use Rattle.std.proofs.lemmas.List.Elements.{All-nil, All-cons, All-append, All-head, All-tail}
-use Rattle.std.specs.List.{All, list_all}
+use Rattle.std.specs.List.{All}
 use Rattle.std.specs.Char.{IsScalar, to_ascii_lowercase}
-use Rattle.std.specs.Str.{IsUtf8, all_scalars, encode_utf8_all}
+use Rattle.std.specs.Str.{IsUtf8, all_scalars}
 use Rattle.term_core.specs.Texts.{xsd_string}
-use Rattle.term_core.specs.Spelling.{lang_string, IsSpelledIri, IsSpelledLabel, IsSpelledTag, IsSpelledKind, IsSpelled, AreSpelled}
+use Rattle.term_core.specs.Spelling.{lang_string, IsSpelledIri, IsSpelledLabel, IsSpelledTag, IsSpelled, AreSpelled}
 use Rattle.term_core.specs.Order.{IsAllowed}
 use Rattle.term_core.specs.Order as order
-use Rattle.term_core.specs.Characters.{is_iri, is_letter, is_digit, AreAll, IsTextOf}
-use Rattle.term_core.specs.Escapes.{IsEscaped, IsIriEscape, IsStringEscape, IsEchar, echar_value}
+use Rattle.term_core.specs.Characters.{is_letter, AreAll}
+use Rattle.term_core.specs.Escapes.{IsEscaped, IsStringEscape, echar_value}
 use Rattle.term_core.specs.Escapes.IsEscaped.{nothing, character, escape}
 use Rattle.term_core.specs.Names.{IsTag, AreSubtags, is_alphanumeric}
 use Rattle.term_core.specs.Names.AreSubtags.{no_subtag, subtag}
@@ -19,10 +19,9 @@ use Rattle.term_core.specs.declared.term.Term.{Term}
 use Rattle.term_core.specs.declared.term.Term.TheVariants as terms
 use Rattle.term_core.specs.declared.term.Triple.{Triple}
 use Rattle.nt_text.specs.declared.fault.DataFault.{DataFault}
-use Rattle.nt_text.specs.Characters.{is_line}
-use Rattle.nt_text.specs.Grammar.{IsIri, IsString, IsBlankNode, IsLang, IsSpaced, IsTagged, IsTyped, IsPlain, IsLiteral, IsSubject, IsPredicate, IsObject, IsTriple, IsTripleLine, IsLine, AreLines, IsLineEnd, IsEndedLine, AreLinesOf, IsDocument}
+use Rattle.nt_text.specs.Grammar.{IsIri, IsString, IsBlankNode, IsLang, IsSpaced, IsLiteral, IsSubject, IsPredicate, IsObject, IsTriple, IsLine, AreLines, IsLineEnd, AreLinesOf, IsDocument}
 use Rattle.nt_text.specs.Reading.{document_of, IsOutcome}
-use Rattle.nt_text.proofs.EscapeLaws.{all_parts, all_both, all_front}
+use Rattle.nt_text.proofs.EscapeLaws.{all_parts}
 use Rattle.nt_text.proofs.TagLaws.{small_encoded}
 use Rattle.nt_text.proofs.Judged.{found}
 

@@ -1,6 +1,5 @@
 -- What a reader leaves of a name or a tag is the end of the text.
-use Rattle.std.proofs.Common.{◌≡◌, ℕ, Bool, true, false, ◌&&◌, not, cond, List, [], ◌∷◌, ◌++◌, eqb, refl, sym, ap, ◌∙◌, append_assoc, Option, Some, None, subst}
-use Rattle.std.specs.Str.{chars}
+use Rattle.std.proofs.Common.{◌≡◌, ℕ, Bool, true, false, ◌&&◌, not, cond, List, [], ◌∷◌, ◌++◌, eqb, sym, ap, ◌∙◌, append_assoc, Some, subst}
 use Rattle.term_core.specs.Characters.{is_letter, front, after}
 use Rattle.term_core.specs.Names.{is_label_part, is_alphanumeric}
 use Rattle.nt_text.specs.Reading.{head_at, past_name, past_subtags, past_tag}

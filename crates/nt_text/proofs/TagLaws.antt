@@ -1,20 +1,19 @@
 -- Language tags: the longest that stands at the front of a text is the one that is read.
-use Rattle.std.proofs.Common.{◌≡◌, ◌≢◌, ℕ, zero, suc, ◌<◌, ◌≤◌, ◌+◌, Bool, true, false, cond, ◌&&◌, ◌||◌, not, List, [], ◌∷◌, ◌++◌, ◌⊎◌, inl, inr, length, map, Option, Some, None, eqb, nat_lt, refl, sym, ap, ◌∙◌, subst, arith, append_assoc, length-append}
+use Rattle.std.proofs.Common.{◌≡◌, ◌≢◌, ℕ, ◌≤◌, ◌+◌, Bool, true, false, cond, ◌&&◌, not, List, [], ◌∷◌, ◌++◌, length, map, Option, Some, None, eqb, nat_lt, refl, sym, ap, ◌∙◌, subst, arith, append_assoc, length-append}
 use Rattle.std.proofs.lemmas.Bool.{eqb-true, ltb-true}
 use Rattle.std.proofs.lemmas.List.{append-nil}
 use Rattle.std.proofs.lemmas.Bool.Decides.{nat_tests}
 use Rattle.std.specs.Char.{to_ascii_lowercase}
 use Rattle.std.specs.Str.{encode_utf8_all}
-use Rattle.std.specs.List.{list_all}
 use Rattle.std.proofs.lemmas.Str.{encode_ascii}
-use Rattle.term_core.specs.Characters.{front, after, begins, is_letter, is_digit, AreAll}
+use Rattle.term_core.specs.Characters.{front, after, begins, is_letter, AreAll}
 use Rattle.term_core.specs.Names.{IsTag, AreSubtags, is_alphanumeric}
 use Rattle.term_core.specs.Names.AreSubtags.{no_subtag, subtag}
 use Rattle.nt_text.specs.Grammar.{IsLang, IsLongest}
 use Rattle.nt_text.specs.Reading.{◌>>=◌, expect, head_at, past_subtags, past_tag, before, lang_at}
 use Rattle.nt_text.proofs.Cut.{parts}
-use Rattle.nt_text.proofs.Steps.{bind_some, guard_some, some_is, expect_is, passes, behind_stops, stops}
-use Rattle.nt_text.proofs.EscapeLaws.{all_parts, all_both, all_front}
+use Rattle.nt_text.proofs.Steps.{bind_some, guard_some, expect_is, passes, stops}
+use Rattle.nt_text.proofs.EscapeLaws.{all_parts, all_both}
 use Rattle.nt_text.proofs.NameLaws.{same_cut, before_seam}
 
 -- ---- subtags

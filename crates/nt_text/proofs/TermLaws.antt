@@ -1,24 +1,23 @@
 -- IRIs, strings, blank nodes and literals: what is read is of the grammar, and what is of the grammar is read.
-use Rattle.std.proofs.Common.{◌≡◌, ◌≢◌, ℕ, zero, suc, ◌<◌, ◌≤◌, ◌+◌, Bool, true, false, cond, ◌&&◌, not, List, [], ◌∷◌, ◌++◌, ◌⊎◌, inl, inr, length, Option, Some, None, eqb, refl, sym, ap, ◌∙◌, subst, arith, append_assoc}
-use Rattle.std.proofs.lemmas.Bool.{eqb-true, false_from_ne_true}
+use Rattle.std.proofs.Common.{◌≡◌, ◌≢◌, ℕ, Bool, true, false, cond, List, [], ◌∷◌, ◌++◌, inl, inr, Option, Some, None, eqb, refl, sym, ap, ◌∙◌, subst}
+use Rattle.std.proofs.lemmas.Bool.{false_from_ne_true}
 use Rattle.std.proofs.lemmas.Bool.Decides.{not_from_Decides}
 use Rattle.std.proofs.lemmas.Slice.Eq.{bytes_eq-Decides}
 use Rattle.std.specs.Str.{encode_utf8_all, bytes_eq}
 use Rattle.term_core.specs.Texts.{xsd_string}
 use Rattle.term_core.specs.Spelling.{lang_string}
-use Rattle.term_core.specs.Characters.{is_letter, front, after, begins, AreAll}
-use Rattle.term_core.specs.Names.{has_scheme, is_scheme}
+use Rattle.term_core.specs.Characters.{after, begins}
+use Rattle.term_core.specs.Names.{has_scheme}
 use Rattle.term_core.specs.declared.term.Term.{Term}
 use Rattle.term_core.specs.declared.term.Term.TheVariants as terms
-use Rattle.nt_text.specs.declared.escapes.Quoted.{Quoted}
 use Rattle.nt_text.specs.declared.escapes.Quoted.TheVariants as quoted
 use Rattle.nt_text.specs.Characters.{is_blank}
-use Rattle.nt_text.specs.Grammar.{IsIri, IsString, IsBlankNode, IsLang, IsSpaced, IsTagged, IsTyped, IsPlain, IsLiteral, IsSubject, IsObject}
+use Rattle.nt_text.specs.Grammar.{IsIri, IsString, IsBlankNode, IsSpaced, IsLiteral, IsSubject, IsObject}
 use Rattle.nt_text.specs.Reading.{◌>>=◌, expect, spelled_at, iri_at, string_at, name_at, label_at, lang_at, datatype_at, literal_by, literal_at, subject_at, object_at}
 use Rattle.nt_text.proofs.Cut.{scheme_encoded}
 use Rattle.nt_text.proofs.Steps.{bind_some, guard_some, some_is, expect_is, spaced_after, skipped}
 use Rattle.nt_text.proofs.SpelledLaws.{spelled_sound, spelled_complete}
-use Rattle.nt_text.proofs.NameLaws.{IsLabelAt, name_sound, name_complete}
+use Rattle.nt_text.proofs.NameLaws.{name_sound, name_complete}
 use Rattle.nt_text.proofs.TagLaws.{lang_sound, lang_complete}
 
 abbrev Read : Type 0

@@ -1,6 +1,6 @@
 -- The grammar of a document: how each part of a text is spelled, apart from how it is read. A text is a list of
 -- characters, and the texts of terms are lists of bytes. `IsX text x rest`: the text begins with x and goes on with rest.
-use Rattle.std.specs.Prelude.{◌≡◌, ◌≢◌, ◌⊎◌, ◌++◌, ◌+◌, ◌≤◌, ℕ, true, false, codes, ◌==◌, List, [], ◌∷◌, length, map}
+use Rattle.std.specs.Prelude.{◌≡◌, ◌≢◌, ◌⊎◌, ◌++◌, ◌≤◌, ℕ, true, false, codes, ◌==◌, List, [], ◌∷◌, length, map}
 use Rattle.std.specs.Char.{to_ascii_lowercase}
 use Rattle.std.specs.Str.{encode_utf8_all}
 use Rattle.term_core.specs.Texts.{xsd_string}

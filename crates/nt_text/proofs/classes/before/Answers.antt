@@ -1,5 +1,4 @@
-use Rattle.std.proofs.Common.{rules, ◌≡◌, ◌≤◌, ◌∙◌, ap, length, take, ◌-◌}
-use Rattle.std.specs.Str.{chars}
+use Rattle.std.proofs.Common.{◌∙◌, length, ◌-◌}
 use Rattle.nt_text.proofs.Cut.{cut_before, range_front}
 use Rattle.nt_text.proofs.classes.before.Goals as goal
 

@@ -1,4 +1,3 @@
-use Rattle.std.proofs.Common.{◌≡◌, ◌+◌, ap, sym, ◌∙◌, Some}
 use Rattle.std.specs.Str.{chars}
 use Rattle.nt_text.proofs.Documents.{next_line, fault_passes, all_read, fewer}
 use Rattle.nt_text.proofs.document.read_lines.Goals as goal

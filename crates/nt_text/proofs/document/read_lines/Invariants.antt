@@ -1,4 +1,4 @@
-use Rattle.std.proofs.Common.{◌≡◌, ℕ, ◌+◌, ◌≤◌, List, [], length, option_map}
+use Rattle.std.proofs.Common.{◌≡◌, ◌+◌, ◌≤◌, [], length, option_map}
 use Rattle.std.specs.Str.{chars}
 use Rattle.nt_text.specs.Reading.{lines_left, lines_of, judged}
 use Rattle.nt_text.proofs.Documents.{left_size}

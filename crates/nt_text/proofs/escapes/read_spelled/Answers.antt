@@ -1,4 +1,4 @@
-use Rattle.std.proofs.Common.{◌≡◌, ◌∙◌, sym, ap, Some}
+use Rattle.std.proofs.Common.{◌∙◌, sym, ap}
 use Rattle.std.specs.Str.{chars}
 use Rattle.term_core.specs.Characters.{front, after}
 use Rattle.nt_text.proofs.Spelled.{begun, gone_on, left_on}
