@@ -11,9 +11,10 @@ memory of:
 - `sage try` with `SELECT * { ?s ?p ?o }` (every triple is a row);
 - `rapper -q -c -i ntriples` and Python's rdflib, where they are installed.
 
-The growth between two sizes is the ratio of the seconds. A second table follows the pages of one
-query over 100,000 triples, from one page of 10,000 steps to pages of one step, and compares them.
-Only Python's standard library is used.
+The growth between two sizes is the ratio of the seconds. A second table compares the largest document
+with one of as many lines that hold every kind of term: blank nodes, escapes in IRIs and strings, tags
+and datatypes. A third follows the pages of one query over 100,000 triples, from one page of 10,000
+steps to pages of one step, and compares them. Only Python's standard library is used.
 """
 
 import argparse
@@ -41,6 +42,28 @@ def make_document(path, triples):
                 value = f"<http://bench.example/item/{dice.randrange(subjects)}>"
             else:
                 value = f'"value {dice.randrange(triples)} of the item"'
+            file.write(f"<http://bench.example/item/{subject}> <http://bench.example/property/{predicate}> {value} .\n")
+
+
+RICH_VALUES = [
+    lambda dice, n: f'"{n}"^^<http://www.w3.org/2001/XMLSchema#integer>',
+    lambda dice, n: f'"caf\\u00e9 {n}"@en-GB',
+    lambda dice, n: f'"line\\n{n}\\t\\"quoted\\" and \\\\ \\U0001F600"',
+    lambda dice, n: f"_:node{dice.randrange(1000)}.x",
+    lambda dice, n: f"<http://bench.example/caf\\u00e9/{n}>",
+    lambda dice, n: f'"20{n % 100:02}-01-01"^^<http://www.w3.org/2001/XMLSchema#date>',
+]
+
+
+def make_rich_document(path, triples):
+    """Writes a document of as many lines as the plain one, with each kind of term and of escape."""
+    dice = random.Random(SEED)
+    subjects = max(1, triples // 5)
+    with open(path, "w", encoding="utf-8") as file:
+        for n in range(triples):
+            subject = dice.randrange(subjects)
+            predicate = dice.randrange(10)
+            value = RICH_VALUES[n % len(RICH_VALUES)](dice, dice.randrange(triples))
             file.write(f"<http://bench.example/item/{subject}> <http://bench.example/property/{predicate}> {value} .\n")
 
 
@@ -103,6 +126,21 @@ def sizes_table(program, folder, largest):
             print(f"{name:<20} {size:>9} {seconds:>9.2f} {growth:>7} {memory / 1e6:>8.1f} {memory / size:>15.0f}")
 
 
+def kinds_table(program, folder, size):
+    """The largest document beside one of as many lines with every kind of term."""
+    query = os.path.join(folder, "one.rq")
+    plain, rich = os.path.join(folder, f"{size}.nt"), os.path.join(folder, f"{size}.rich.nt")
+    make_rich_document(rich, size)
+    runs = [("sage, one subject", lambda path: [program, "try", path, query])] + peers()
+    print(f"\n{'program':<20} {'document':>9} {'MB':>7} {'seconds':>9} {'us a line':>10} {'MB':>8} {'memory to document':>19}")
+    for name, command in runs:
+        for kind, path in [("plain", plain), ("rich", rich)]:
+            bytes_ = os.path.getsize(path)
+            seconds, memory, _ = min(measured(command(path)) for _ in range(3))
+            line = seconds / size * 1e6
+            print(f"{name:<20} {kind:>9} {bytes_ / 1e6:>7.1f} {seconds:>9.2f} {line:>10.2f} {memory / 1e6:>8.1f} {memory / bytes_:>19.1f}")
+
+
 def pages_table(program, folder):
     """The same answer of some 10,000 rows in one page and in pages of fewer steps, down to one."""
     path = os.path.join(folder, "100000.nt")
@@ -130,6 +168,7 @@ def main():
         folder = given.keep or scratch
         os.makedirs(folder, exist_ok=True)
         sizes_table(program, folder, given.largest)
+        kinds_table(program, folder, given.largest)
         pages_table(program, folder)
 
 
