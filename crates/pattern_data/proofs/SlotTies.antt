@@ -1,6 +1,5 @@
 -- Terms of one kind and one text tie, unless they are literals.
-use Rattle.std.proofs.Common.{◌≡◌, ◌≢◌, ℕ, List, refl, sym, ◌∙◌, ap, arith, Equal}
-use Rattle.std.specs.declared.cmp.Ordering.{Ordering}
+use Rattle.std.proofs.Common.{◌≡◌, ◌≢◌, refl, sym, ◌∙◌, ap, arith, Equal}
 use Rattle.term_core.specs.declared.term.Term.{Term}
 use Rattle.term_core.specs.declared.term.Term.TheVariants.{Iri, Blank, Literal}
 use Rattle.term_core.specs.Order.{rank_of, text_of, term_cmp}
