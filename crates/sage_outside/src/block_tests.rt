@@ -27,7 +27,7 @@ fn the_last_block_ends_in_zeros(rt: HostRuntime) -> Result<(), Fail> {
     let mut blocks = MemBlocks::new(&bytes, Vec::new(rt.alloc()));
     assert_eq!(rt; blocks.blocks(), 2);
     blocks.read_block(1, &mut block)?;
-    assert_eq!(rt; &block[..4], [2, 3, 0, 0].as_slice());
+    assert!(rt; block.starts_with(&[2, 3, 0, 0]));
     assert_eq!(rt; block[4095], 0);
     blocks.read_block(0, &mut block)?;
     assert_eq!(rt; block[4095], 1);
@@ -35,7 +35,7 @@ fn the_last_block_ends_in_zeros(rt: HostRuntime) -> Result<(), Fail> {
     let mut never = NeverBlocks::new(&bytes);
     assert_eq!(rt; never.blocks(), 2);
     never.read_block(1, &mut block)?;
-    assert_eq!(rt; &block[..3], [2, 3, 0].as_slice());
+    assert!(rt; block.starts_with(&[2, 3, 0]));
     Ok(())
 }
 
