@@ -25,15 +25,17 @@ fn the_last_block_ends_in_zeros(rt: HostRuntime) -> Result<(), Fail> {
     bytes.extend_from_slice(&[2, 3])?;
     let mut block = [9; 4096];
     let mut blocks = MemBlocks::new(&bytes, Vec::new(rt.alloc()));
+    assert_eq!(rt; blocks.blocks(), 2);
     blocks.read_block(1, &mut block)?;
-    assert_eq!(rt; &block[..4], [2, 3, 0, 0].as_slice());
+    assert!(rt; block.starts_with(&[2, 3, 0, 0]));
     assert_eq!(rt; block[4095], 0);
     blocks.read_block(0, &mut block)?;
     assert_eq!(rt; block[4095], 1);
     assert_eq!(rt; blocks.reads(), 2);
     let mut never = NeverBlocks::new(&bytes);
+    assert_eq!(rt; never.blocks(), 2);
     never.read_block(1, &mut block)?;
-    assert_eq!(rt; &block[..3], [2, 3, 0].as_slice());
+    assert!(rt; block.starts_with(&[2, 3, 0]));
     Ok(())
 }
 
@@ -41,6 +43,7 @@ fn the_last_block_ends_in_zeros(rt: HostRuntime) -> Result<(), Fail> {
 fn listed_reads_fail(rt: HostRuntime) -> Result<(), Fail> {
     let mut block = [0; 4096];
     let mut blocks = MemBlocks::new(b"abc", vec![in rt.alloc(); 1]?);
+    assert_eq!(rt; blocks.blocks(), 1);
     blocks.read_block(0, &mut block)?;
     assert_eq!(rt; blocks.read_block(0, &mut block), Err(Failed));
     blocks.read_block(0, &mut block)?;
@@ -61,10 +64,10 @@ fn an_opened_file_fails_by_the_shelf_s_list(rt: HostRuntime) -> Result<(), Fail>
     let mut block = [0; 4096];
     assert_eq!(rt; shelf.open("b").err(), Some(ShelfFault::Missing));
     let mut file = shelf.open("a")?;
+    assert_eq!(rt; file.blocks(), 1);
     assert_eq!(rt; file.read_block(0, &mut block), Err(Failed));
     file.read_block(0, &mut block)?;
     assert_eq!(rt; &block[..6], b"first\0".as_slice());
-    assert_eq!(rt; file.blocks(), 1);
     shelf.close(file);
     assert_eq!(rt; shelf.size("a"), Err(ShelfFault::Failed));
     assert_eq!(rt; shelf.size("a"), Ok(5));

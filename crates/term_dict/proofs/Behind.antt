@@ -10,7 +10,7 @@ use Rattle.term_dict.specs.declared.area.Area.{Area}
 use Rattle.term_dict.specs.declared.dict.Dict.{Dict}
 use Rattle.term_dict.specs.Areas.{area_bytes, part_of, block_of}
 use Rattle.term_dict.specs.Fronts.{IsDecided}
-use Rattle.term_dict.specs.Layout.{record_area, or_block, record_in, raw_record_in, span_at, raw_at, term_at}
+use Rattle.term_dict.specs.Layout.{record_area, or_block, record_in, raw_record_in}
 use Rattle.term_dict.specs.Ranks.{Compares}
 use Rattle.term_dict.specs.Records.{term_in, raw_in}
 use Rattle.term_dict.proofs.Parts.{joined}
@@ -41,8 +41,3 @@ in_span d from end image bytes t r e h =
 pub front_compares : (block : ℕ) (front rest : List ℕ) (t : Term) (order : Ordering) → IsDecided front rest t order
     → Compares t (Ok order) (or_block block (raw_in (front ++ rest))) (or_block block (term_in (front ++ rest)))
 front_compares block front rest t order is = ((is.texts.0, ap (or_block block) is.texts.1, is.texts.2), λ tie. absurd (is.apart tie))
-
--- the span of a record
-pub at_span : (d : Dict) (k : ℕ) (image : List ℕ) (t : Term) (r : Result Ordering StoreFault) (span : Result (ℕ × ℕ) ℕ) → span_at d k image ≡ span
-    → Compares t r (raw_record_in d span image) (record_in d span image) → Compares t r (raw_at d k image) (term_at d k image)
-at_span d k image t r span e h = subst (λ s. Compares t r (raw_record_in d s image) (record_in d s image)) (sym e) h

@@ -9,7 +9,7 @@ use Rattle.sage_outside.specs.declared.fault.StoreFault.{StoreFault}
 use Rattle.sage_outside.specs.declared.fault.StoreFault.TheVariants as faults
 use Rattle.term_core.specs.declared.term.Term.{Term}
 use Rattle.term_core.specs.Order.{term_cmp}
-use Rattle.term_core.specs.OrderLaws.{terms_total, same_terms}
+use Rattle.term_core.specs.OrderLaws.{terms_total}
 use Rattle.term_dict.specs.declared.dict.Dict.{Dict}
 use Rattle.term_dict.specs.Layout.{term_at, raw_at}
 use Rattle.term_dict.specs.Ranks.{Holds, Compares}
@@ -21,13 +21,6 @@ use Rattle.term_dict.proofs.Ranks.{rises, greater, turned, ties, by_place, same_
 pub record IsBetween (ts : List Term) (t : Term) (low high : ℕ) : Type 0 where
   pub below : (k : ℕ) (u : Term) → slice_get ts k ≡ Some u → k < low → term_cmp u t ≡ Less
   pub above : (k : ℕ) (u : Term) → slice_get ts k ≡ Some u → high ≤ k → term_cmp u t ≡ Greater
-
--- at the start nothing is known
-pub all_between : (ts : List Term) (t : Term) (high : ℕ) → ((k : ℕ) (u : Term) → slice_get ts k ≡ Some u → k < high) → IsBetween ts t 0 high
-all_between ts t high within = record {
-  below = λ k u at lt. absurd (omega arith);
-  above = λ k u at le. absurd (omega (arith, within k u at));
-}
 
 module _ (ts : List Term) (t : Term) (sorted : IsStrictlySortedBy term_cmp ts) (low high m : ℕ) (u : Term) (between : IsBetween ts t low high) (at : slice_get ts m ≡ Some u) where
   pub narrow_less : term_cmp u t ≡ Less → IsBetween ts t (m + 1) high
@@ -95,11 +88,6 @@ cost_step before mid now s r h i = let e : (s + 1) * r ≡ s * r + r = grind ari
 
 pub cost_within : (before now s m r : ℕ) → now ≤ before + s * r → s ≤ m → now ≤ before + m * r
 cost_within before now s m r h le = let k : s * r ≤ m * r = mul-le-mul_right r le in omega arith
-
--- the term that was read is compared
-pub compares : (d : Dict) (image : List ℕ) (k : ℕ) (t kept : Term) (order : Ordering) → term_at d k image ≡ Ok kept → order ≡ term_cmp kept t → Compares t (Ok order) (raw_at d k image) (term_at d k image)
-compares d image k t kept order is e =
-    ((kept, raw_of_term d k image kept is, sym e), λ tie. is ∙ ap Ok (same_terms kept t (sym e ∙ tie)))
 
 -- what was compared are the texts of the record
 pub compared_here : (d : Dict) (image : List ℕ) (k : ℕ) (t : Term) (r : Result Ordering StoreFault) (order : Ordering) → r ≡ Ok order

@@ -15,12 +15,6 @@ record_short (Blank label) h = omega arith
 record_short (Iri iri) h = omega arith
 record_short (Literal lexical datatype lang) h = omega (arith, length-append {A = ℕ})
 
--- one more byte
-pub bytes_more : (bytes old now new all : List ℕ) (i b : ℕ) → i < length bytes → b ≡ get_or bytes i b → new ≡ now ++ b ∷ [] → now ++ drop i bytes ≡ all → new ++ drop (i + 1) bytes ≡ all
-bytes_more bytes old now new all i b lt is e h =
-    let here : drop i bytes ≡ b ∷ drop (i + 1) bytes = drop_more bytes i b lt ∙ ap (λ c. c ∷ drop (i + 1) bytes) (sym is) in
-    ap (λ l. l ++ drop (i + 1) bytes) e ∙ append_assoc now (b ∷ []) (drop (i + 1) bytes) ∙ (sym (ap (λ l. now ++ l) here) ∙ h)
-
 module _ (ts : List Term) (i : ℕ) (t : Term) (lt : i < length ts) (is : t ≡ get_or ts i t) where
   here : drop i ts ≡ t ∷ drop (i + 1) ts
   here = drop_more ts i t lt ∙ ap (λ u. u ∷ drop (i + 1) ts) (sym is)

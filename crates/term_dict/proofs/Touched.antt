@@ -2,16 +2,6 @@
 use Rattle.std.proofs.Common.{◌≡◌, ℕ, ◌+◌, ◌-◌, ◌*◌, ◌/◌, ◌%◌, ◌<◌, ◌≤◌, min, ◌⊎◌, inl, inr, arith}
 use Rattle.term_dict.specs.Areas.{touched}
 
--- at most two more than the bytes fill
-pub few_touched : (p at n : ℕ) → (p ≡ 4096) ⊎ (p ≡ 4080) → touched p at n ≤ n / 4080 + 2
-few_touched p at n (inl e) = rw e (omega arith)
-few_touched p at n (inr e) = rw e (omega arith)
-
--- two numbers of eight bytes touch at most two blocks
-pub pair_touched : (p at : ℕ) → (p ≡ 4096) ⊎ (p ≡ 4080) → touched p at 16 ≤ 2
-pair_touched p at (inl e) = rw e (omega arith)
-pair_touched p at (inr e) = rw e (omega arith)
-
 -- the front of a record touches at most two
 pub front_touched : (p at near count : ℕ) → (p ≡ 4096) ⊎ (p ≡ 4080) → near ≡ min (2 * p - at % p) count → touched p at near ≤ 2
 front_touched p at near count (inl e) is = let i = rw e at is in rw e (omega arith)
