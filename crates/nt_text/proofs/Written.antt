@@ -1,28 +1,26 @@
 -- What is written reads back: the line of a triple is a document with that triple.
-use Rattle.std.proofs.Common.{◌≡◌, ◌≢◌, ◌≤◌, ℕ, Bool, true, false, cond, ◌||◌, not, List, [], ◌∷◌, ◌++◌, ◌⊎◌, inl, inr, length, map, eqb, nat_lt, refl, sym, ap, ◌∙◌, subst, arith, append_assoc}
+use Rattle.std.proofs.Common.{◌≡◌, ◌≢◌, ◌≤◌, ℕ, Bool, true, false, ◌||◌, not, List, [], ◌∷◌, ◌++◌, inl, inr, length, eqb, refl, sym, ap, ◌∙◌, subst, arith, append_assoc}
 use Rattle.std.proofs.lemmas.Bool.{eqb-true}
 use Rattle.std.proofs.lemmas.Slice.Eq.{bytes_eq-Decides}
 use Rattle.std.specs.Prelude.{flat_map}
-use Rattle.std.specs.Char.{to_ascii_lowercase}
-use Rattle.std.specs.Str.{IsUtf8, encode_utf8_all, bytes_eq}
+use Rattle.std.specs.Str.{bytes_eq}
 use Rattle.term_core.specs.Texts.{xsd_string, escaped, kind_text, term_text, triple_text}
 use Rattle.term_core.specs.Spelling.{lang_string, IsSpelledIri, IsSpelledLabel, IsSpelledTag, IsSpelledKind, IsSpelled, AreSpelled}
 use Rattle.term_core.specs.Order.{IsAllowed}
 use Rattle.term_core.specs.Order as order
-use Rattle.term_core.specs.Characters.{is_iri, is_plain, is_letter, is_digit, is_pn, is_pn_u, is_pn_base, begins, AreAll, IsTextOf}
+use Rattle.term_core.specs.Characters.{is_iri, is_plain, is_letter, is_pn, is_pn_u, is_pn_base, begins, AreAll, IsTextOf}
 use Rattle.term_core.specs.Escapes.{IsEscaped, IsStringEscape}
 use Rattle.term_core.specs.Escapes.IsEscaped.{nothing, character, escape}
-use Rattle.term_core.specs.Names.{has_scheme, IsDotted, IsLabel, is_label_first, is_label_part, IsTag, AreSubtags, is_alphanumeric}
+use Rattle.term_core.specs.Names.{IsDotted, IsLabel, is_label_first, is_label_part, IsTag, AreSubtags, is_alphanumeric}
 use Rattle.term_core.specs.Names.AreSubtags.{no_subtag, subtag}
 use Rattle.term_core.specs.declared.term.Term.{Term}
 use Rattle.term_core.specs.declared.term.Term.TheVariants as terms
 use Rattle.term_core.specs.declared.term.Triple.{Triple}
 use Rattle.nt_text.specs.Characters.{is_blank, is_line}
-use Rattle.nt_text.specs.Grammar.{IsIri, IsString, IsLongest, IsBlankNode, IsLang, IsSpaced, IsTagged, IsTyped, IsPlain, IsLiteral, IsSubject, IsPredicate, IsObject, IsTriple, IsTripleLine, IsLine, AreLines, IsEndedLine, AreLinesOf, IsDocument}
+use Rattle.nt_text.specs.Grammar.{IsIri, IsString, IsLongest, IsSpaced, IsLiteral, IsSubject, IsPredicate, IsObject, IsTriple, IsDocument}
 use Rattle.nt_text.proofs.EscapeLaws.{all_parts, all_both}
 use Rattle.nt_text.proofs.TagLaws.{is_small, weaker, tag_small}
-use Rattle.nt_text.proofs.TermLaws.{bytes_eq_other}
-use Rattle.nt_text.proofs.WrittenText.{IsWrittenAs, written_as, text_both, text_small, text_behind, text_escaped}
+use Rattle.nt_text.proofs.WrittenText.{IsWrittenAs, written_as, text_both, text_small, text_escaped}
 use Rattle.nt_text.proofs.WrittenText.IsWrittenAs.{backslash, quote, feed, return, itself}
 
 -- ---- classes

@@ -1,5 +1,5 @@
 -- What is written is UTF-8: the characters of each part, and the escapes of a lexical form.
-use Rattle.std.proofs.Common.{◌≡◌, ◌<◌, ◌≤◌, ℕ, Bool, true, false, cond, List, [], ◌∷◌, ◌++◌, ◌⊎◌, inl, inr, eqb, nat_lt, nat_le, refl, sym, ap, ◌∙◌, subst, arith}
+use Rattle.std.proofs.Common.{◌≡◌, ◌<◌, ◌≤◌, ℕ, Bool, true, false, cond, List, [], ◌∷◌, ◌++◌, inl, inr, eqb, nat_le, refl, sym, ap, ◌∙◌, subst, arith}
 use Rattle.std.proofs.Math.Utf8.{encode, low_scalar}
 use Rattle.std.proofs.lemmas.Bool.{cases_lt, eqb-true, ltb-true}
 use Rattle.std.proofs.lemmas.Bool.Decides.{nat_tests}
@@ -7,12 +7,10 @@ use Rattle.std.proofs.lemmas.List.{append-nil}
 use Rattle.std.proofs.lemmas.List.Concat.{flat_map-append}
 use Rattle.std.proofs.lemmas.Str.{encode_ascii, encodes-append, IsUtf8-append}
 use Rattle.std.specs.Prelude.{flat_map}
-use Rattle.std.specs.List.{list_all}
 use Rattle.std.specs.Char.{IsScalar}
 use Rattle.std.specs.Str.{IsUtf8, all_scalars, encode_utf8_all, bytes_eq}
 use Rattle.term_core.specs.Texts.{xsd_string, escaped, kind_text, term_text, triple_text}
 use Rattle.term_core.specs.Characters.{is_plain, AreAll, IsTextOf}
-use Rattle.term_core.specs.declared.term.Term.{Term}
 use Rattle.term_core.specs.declared.term.Term.TheVariants as terms
 use Rattle.term_core.specs.declared.term.Triple.{Triple}
 use Rattle.nt_text.proofs.Cut.{wide_bytes}
@@ -38,10 +36,6 @@ small_scalars (x ∷ xs) all =
 -- ASCII is the text of itself
 pub text_small : (xs : List ℕ) → AreAll is_small xs → IsTextOf xs xs
 text_small xs all = record { scalars = small_scalars xs all; encoded = small_encoded xs all }
-
--- a text behind ASCII
-pub text_behind : (front cs xs : List ℕ) → AreAll is_small front → IsTextOf cs xs → IsTextOf (front ++ cs) (front ++ xs)
-text_behind front cs xs all h = text_both front cs front xs (text_small front all) h
 
 -- ---- lexical forms
 
