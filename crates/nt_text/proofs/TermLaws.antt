@@ -105,7 +105,7 @@ label_complete text label rest h = ap label_at h.spelled ∙ name_complete h.cha
 
 -- ---- literals
 
-pub bytes_eq_other : (a b : List ℕ) → bytes_eq a b ≡ false → a ≢ b
+bytes_eq_other : (a b : List ℕ) → bytes_eq a b ≡ false → a ≢ b
 bytes_eq_other a b h = not_from_Decides (bytes_eq a b) (bytes_eq-Decides a b) h
 
 abbrev unless_lang : Read → Option Read

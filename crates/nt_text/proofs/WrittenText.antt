@@ -37,10 +37,6 @@ small_scalars (x ∷ xs) all =
 pub text_small : (xs : List ℕ) → AreAll is_small xs → IsTextOf xs xs
 text_small xs all = record { scalars = small_scalars xs all; encoded = small_encoded xs all }
 
--- a text behind ASCII
-pub text_behind : (front cs xs : List ℕ) → AreAll is_small front → IsTextOf cs xs → IsTextOf (front ++ cs) (front ++ xs)
-text_behind front cs xs all h = text_both front cs front xs (text_small front all) h
-
 -- ---- lexical forms
 
 -- a character that is escaped, or that stands for itself

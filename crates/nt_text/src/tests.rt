@@ -252,22 +252,26 @@ const BAD: [&str; 79] = [
     "_:a <a:p> \"o\"<a:t> .",
 ];
 
+/// Whether a line has one triple, whose subject and object have this shape.
+fn has_shape(alloc: Global, line: &str, shape: &str) -> bool {
+    match read_document(alloc, line.as_bytes()) {
+        Ok(triples) => match triples.as_slice() {
+            [triple] => match shape_of(alloc, triple) {
+                Ok(read) => read.as_slice() == shape.as_bytes(),
+                Err(_) => false,
+            },
+            _ => false,
+        },
+        Err(_) => false,
+    }
+}
+
 #[test]
-fn reads_lines_of_the_grammar(rt: HostRuntime) -> Result<(), Fail> {
+fn reads_lines_of_the_grammar(rt: HostRuntime) {
     let alloc = rt.alloc();
     for (line, shape) in GOOD {
-        match read_document(alloc, line.as_bytes()) {
-            Ok(triples) => {
-                assert_eq!(rt; (line, triples.len()), (line, 1));
-                for triple in triples.as_slice() {
-                    let read = shape_of(alloc, triple)?;
-                    assert_eq!(rt; (line, read.as_slice()), (line, shape.as_bytes()));
-                }
-            }
-            Err(fault) => assert_eq!(rt; (line, Some(fault)), (line, None)),
-        }
+        assert_eq!(rt; (line, has_shape(alloc, line, shape)), (line, true));
     }
-    Ok(())
 }
 
 /// Why the document is refused; None where it is not.

@@ -1,21 +1,27 @@
 //! Terms and triples, and the texts of both (RDF 1.1 N-Triples, sections 2 and 7).
 
 use crate::{push_line, push_term, push_triple, read_document, write_term, write_triple};
-use std::alloc::{AllocError, Global};
+use std::alloc::Global;
 use std::test::Fail;
-use term_core::{Memory, Term, Text};
+use term_core::{Memory, Term, Text, Triple};
 
-/// The triples of a document, each written as a line of its own; None where it is refused.
-fn rewritten(alloc: Global, document: &str) -> Result<Option<Vec<u8>>, Memory> {
+/// The lines of triples.
+fn lines_of(alloc: Global, triples: &[Triple]) -> Result<Vec<u8>, Memory> {
     let mut out = Vec::new(alloc);
+    for triple in triples {
+        out.extend_from_slice(write_triple(alloc, triple)?.bytes())?;
+    }
+    Ok(out)
+}
+
+/// Whether the triples of a document are written as these lines.
+fn is_rewritten(alloc: Global, document: &str, lines: &str) -> bool {
     match read_document(alloc, document.as_bytes()) {
-        Ok(triples) => {
-            for triple in triples.as_slice() {
-                out.extend_from_slice(write_triple(alloc, triple)?.bytes())?;
-            }
-            Ok(Some(out))
-        }
-        Err(_) => Ok(None),
+        Ok(triples) => match lines_of(alloc, triples.as_slice()) {
+            Ok(out) => out.as_slice() == lines.as_bytes(),
+            Err(_) => false,
+        },
+        Err(_) => false,
     }
 }
 
@@ -56,19 +62,15 @@ const DOCUMENTS: [(&str, &str); 8] = [
 ];
 
 #[test]
-fn writes_what_was_read(rt: HostRuntime) -> Result<(), Fail> {
+fn writes_what_was_read(rt: HostRuntime) {
     let alloc = rt.alloc();
     for (document, lines) in DOCUMENTS {
-        match rewritten(alloc, document)? {
-            Some(out) => assert_eq!(rt; (document, out.as_slice()), (document, lines.as_bytes())),
-            None => assert_eq!(rt; (document, false), (document, true)),
-        }
-        match rewritten(alloc, lines)? {
-            Some(out) => assert_eq!(rt; (lines, out.as_slice()), (lines, lines.as_bytes())),
-            None => assert_eq!(rt; (lines, false), (lines, true)),
-        }
+        assert_eq!(rt;
+            (document, is_rewritten(alloc, document, lines)),
+            (document, true)
+        );
+        assert_eq!(rt; (lines, is_rewritten(alloc, lines, lines)), (lines, true));
     }
-    Ok(())
 }
 
 #[test]
