@@ -30,7 +30,29 @@ SIZES = [10_000, 100_000, 1_000_000]
 SEED = 20190513
 
 
-def make_document(path, triples):
+def plain_value(dice, n, subjects, triples):
+    """An IRI or a plain string."""
+    if n % 2:
+        return f"<http://bench.example/item/{dice.randrange(subjects)}>"
+    return f'"value {dice.randrange(triples)} of the item"'
+
+
+RICH_VALUES = [
+    lambda number: f'"{number}"^^<http://www.w3.org/2001/XMLSchema#integer>',
+    lambda number: f'"caf\\u00e9 {number}"@en-GB',
+    lambda number: f'"line\\n{number}\\t\\"quoted\\" and \\\\ \\U0001F600"',
+    lambda number: f"_:node{number % 1000}.x",
+    lambda number: f"<http://bench.example/caf\\u00e9/{number}>",
+    lambda number: f'"20{number % 100:02}-01-01"^^<http://www.w3.org/2001/XMLSchema#date>',
+]
+
+
+def rich_value(dice, n, subjects, triples):
+    """Each kind of term and of escape in turn."""
+    return RICH_VALUES[n % len(RICH_VALUES)](dice.randrange(triples))
+
+
+def make_document(path, triples, value_of=plain_value):
     """Writes a document in which a subject has about five triples."""
     dice = random.Random(SEED)
     subjects = max(1, triples // 5)
@@ -38,32 +60,7 @@ def make_document(path, triples):
         for n in range(triples):
             subject = dice.randrange(subjects)
             predicate = dice.randrange(10)
-            if n % 2:
-                value = f"<http://bench.example/item/{dice.randrange(subjects)}>"
-            else:
-                value = f'"value {dice.randrange(triples)} of the item"'
-            file.write(f"<http://bench.example/item/{subject}> <http://bench.example/property/{predicate}> {value} .\n")
-
-
-RICH_VALUES = [
-    lambda dice, n: f'"{n}"^^<http://www.w3.org/2001/XMLSchema#integer>',
-    lambda dice, n: f'"caf\\u00e9 {n}"@en-GB',
-    lambda dice, n: f'"line\\n{n}\\t\\"quoted\\" and \\\\ \\U0001F600"',
-    lambda dice, n: f"_:node{dice.randrange(1000)}.x",
-    lambda dice, n: f"<http://bench.example/caf\\u00e9/{n}>",
-    lambda dice, n: f'"20{n % 100:02}-01-01"^^<http://www.w3.org/2001/XMLSchema#date>',
-]
-
-
-def make_rich_document(path, triples):
-    """Writes a document of as many lines as the plain one, with each kind of term and of escape."""
-    dice = random.Random(SEED)
-    subjects = max(1, triples // 5)
-    with open(path, "w", encoding="utf-8") as file:
-        for n in range(triples):
-            subject = dice.randrange(subjects)
-            predicate = dice.randrange(10)
-            value = RICH_VALUES[n % len(RICH_VALUES)](dice, dice.randrange(triples))
+            value = value_of(dice, n, subjects, triples)
             file.write(f"<http://bench.example/item/{subject}> <http://bench.example/property/{predicate}> {value} .\n")
 
 
@@ -130,7 +127,7 @@ def kinds_table(program, folder, size):
     """The largest document beside one of as many lines with every kind of term."""
     query = os.path.join(folder, "one.rq")
     plain, rich = os.path.join(folder, f"{size}.nt"), os.path.join(folder, f"{size}.rich.nt")
-    make_rich_document(rich, size)
+    make_document(rich, size, rich_value)
     runs = [("sage, one subject", lambda path: [program, "try", path, query])] + peers()
     print(f"\n{'program':<20} {'document':>9} {'MB':>7} {'seconds':>9} {'us a line':>10} {'MB':>8} {'memory to document':>19}")
     for name, command in runs:
