@@ -1,6 +1,6 @@
 //! Numbers as literals.
 
-ghost use Rattle.std.specs.Prelude.{◌≡◌, ◌++◌, ◌≤◌, ◌/◌, ◌^◌, ◌∷◌, [], cond, IsTrue, IfOk};
+ghost use Rattle.std.specs.Prelude.{◌≡◌, ◌++◌, ◌≤◌, ◌/◌, ◌^◌, ◌∷◌, [], cond, IsTrue, IfOk, string_bytes};
 ghost use Rattle.std.specs.Fmt.{decimal, signed_decimal};
 ghost use Rattle.term_core.specs.Numbers.{last_digits, places, lexical, datatype, is_kept};
 ghost use Rattle.term_core.specs.Numbers as numbers;
@@ -15,23 +15,23 @@ use term_core::{Memory, Term, Text};
 
 /// The last decimal digits of a number, as many as there are places.
 #[tactic(auto, unfolding(term_core::specs::Numbers::last_digits))]
-fn push_digits(out: &mut Vec<u8>, n: u128, places: u8) -> Result<(), Memory>
-    ensures { IfOk result (λ _. out.new.items ≡ out.old.items ++ last_digits places n) }
+fn push_digits(out: &mut String, n: u128, places: u8) -> Result<(), Memory>
+    ensures { IfOk result (λ _. string_bytes out.new ≡ string_bytes out.old ++ last_digits places n) }
 {
     if places == 0 {
         return Ok(());
     }
     push_digits(out, n / 10, places - 1)?;
-    out.push(b'0' + (n % 10) as u8)?;
+    out.push((b'0' + (n % 10) as u8) as char)?;
     Ok(())
 }
 
 /// The places behind the point, of which there is at least one.
-fn push_places(out: &mut Vec<u8>, n: u128, places: u8) -> Result<(), Memory>
-    ensures { IfOk result (λ _. out.new.items ≡ out.old.items ++ numbers.places places n) }
+fn push_places(out: &mut String, n: u128, places: u8) -> Result<(), Memory>
+    ensures { IfOk result (λ _. string_bytes out.new ≡ string_bytes out.old ++ numbers.places places n) }
 {
     if places == 0 {
-        out.push(b'0')?;
+        out.push('0')?;
         Ok(())
     } else {
         push_digits(out, n, places)
@@ -39,49 +39,33 @@ fn push_places(out: &mut Vec<u8>, n: u128, places: u8) -> Result<(), Memory>
 }
 
 /// The lexical form of an integer.
-fn write_whole(alloc: Global, m: i128) -> Result<Vec<u8>, Memory>
-    ensures { IfOk result (λ v. v.items ≡ signed_decimal m) }
+fn write_whole(alloc: Global, m: i128) -> Result<String, Memory>
+    ensures { IfOk result (λ text. string_bytes text ≡ signed_decimal m) }
 {
-    let text = format!(in alloc; "{m}")?;
-    let mut out = Vec::new(alloc);
-    out.extend_from_slice(text.as_str().as_bytes())?;
-    Ok(out)
+    Ok(format!(in alloc; "{m}")?)
 }
 
 /// The lexical form of a decimal.
-fn write_decimal(alloc: Global, minus: bool, magnitude: u128, scale: u8) -> Result<Vec<u8>, Memory>
+fn write_decimal(alloc: Global, minus: bool, magnitude: u128, scale: u8) -> Result<String, Memory>
     requires { scale ≤ 18 }
-    ensures { IfOk result (λ v. v.items ≡ cond minus (45 ∷ []) [] ++ (decimal (magnitude / 10 ^ scale) ++ 46 ∷ places scale magnitude)) }
+    ensures { IfOk result (λ text. string_bytes text
+        ≡ cond minus (45 ∷ []) [] ++ (decimal (magnitude / 10 ^ scale) ++ 46 ∷ places scale magnitude)) }
 {
+    let sign = if minus { "-" } else { "" };
     let whole = magnitude / power(scale);
-    let text = format!(in alloc; "{whole}")?;
-    let mut out = Vec::new(alloc);
-    if minus {
-        out.push(b'-')?;
-    }
-    out.extend_from_slice(text.as_str().as_bytes())?;
-    out.push(b'.')?;
+    let mut out = format!(in alloc; "{sign}{whole}.")?;
     push_places(&mut out, magnitude, scale)?;
     Ok(out)
 }
 
-/// A text of ASCII bytes.
-fn text_of(alloc: Global, bytes: &[u8]) -> Result<Text, Memory>
-    ensures { IfOk result (λ t. t ≡ bytes.now) }
-{
-    match Text::from_bytes(alloc, bytes) {
-        Ok(text) => Ok(text),
-        Err(_) => Err(Memory),
-    }
-}
-
-fn literal(alloc: Global, lexical: &[u8], datatype: &[u8]) -> Result<Term, Memory>
-    ensures { IfOk result (λ t. t ≡ Literal lexical.now datatype.now []) }
+/// The literal of a lexical form and a datatype, without a tag.
+fn literal(alloc: Global, lexical: String, datatype: &str) -> Result<Term, Memory>
+    ensures { IfOk result (λ t. t ≡ Literal (string_bytes lexical) datatype.now []) }
 {
     Ok(Term::Literal {
-        lexical: text_of(alloc, lexical)?,
-        datatype: text_of(alloc, datatype)?,
-        lang: text_of(alloc, b"")?,
+        lexical: Text::from_string(lexical),
+        datatype: Text::from_str(alloc, datatype)?,
+        lang: Text::from_str(alloc, "")?,
     })
 }
 
@@ -94,19 +78,11 @@ pub fn write(alloc: Global, a: Num) -> Result<Term, Memory>
     match a {
         Num::Whole(m) => {
             let text = write_whole(alloc, m)?;
-            literal(
-                alloc,
-                text.as_slice(),
-                b"http://www.w3.org/2001/XMLSchema#integer",
-            )
+            literal(alloc, text, "http://www.w3.org/2001/XMLSchema#integer")
         }
         Num::Decimal { s, .. } => {
             let text = write_decimal(alloc, is_minus(a), magnitude(a), s)?;
-            literal(
-                alloc,
-                text.as_slice(),
-                b"http://www.w3.org/2001/XMLSchema#decimal",
-            )
+            literal(alloc, text, "http://www.w3.org/2001/XMLSchema#decimal")
         }
     }
 }
