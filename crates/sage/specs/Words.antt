@@ -2,15 +2,12 @@
 use Rattle.std.specs.Prelude.{◌≡◌, ℕ, ◌+◌, ◌-◌, ◌*◌, ◌≤◌, ◌&&◌, not, ◌==◌, nat_le, List, [], ◌∷◌, length, All, Bool, Option, Some, None, IsSome, is_some, Result, Ok, Err, if◌then◌else◌, codes}
 use Rattle.std.specs.List.{slice_split, list_all, filter_map}
 use Rattle.std.specs.Str.{bytes_eq}
+use Rattle.term_core.specs.Characters.{is_digit}
 use Rattle.plan_tree.specs.Pages.{AreQuanta}
 use Rattle.sage.specs.declared.words.Command.{Command}
 use Rattle.sage.specs.declared.words.Command.TheVariants.{Try}
 use Rattle.sage.specs.declared.words.WordsFault.{WordsFault}
 use Rattle.sage.specs.declared.words.WordsFault.TheVariants as faults
-
--- an ASCII digit
-abbrev pub is_digit : ℕ → Bool
-is_digit b = nat_le 48 b && nat_le b 57
 
 -- The value of the digits read so far and of those to come. With one more digit, a number past 1,000 is past 10,000.
 abbrev pub value_on : ℕ → List ℕ → Option ℕ

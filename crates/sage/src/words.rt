@@ -1,7 +1,8 @@
 // The words of the command line.
 ghost use Rattle.std.specs.Prelude.{◌≡◌, ◌<◌, [], ◌∷◌, length, Some, IfOk, IfSome, option_map};
 ghost use Rattle.std.specs.List.{filter_map};
-ghost use Rattle.sage.specs.Words.{is_digit, value_on, quantum_of, pieces_of, pieces_left, are_quanta, quanta_of, quanta_from, command_of, Spells, AreWithinLimits, HasQuanta};
+ghost use Rattle.term_core.specs.Characters.{is_digit};
+ghost use Rattle.sage.specs.Words.{value_on, quantum_of, pieces_of, pieces_left, are_quanta, quanta_of, quanta_from, command_of, Spells, AreWithinLimits, HasQuanta};
 
 use std::alloc::Global;
 use term_core::{Items, Memory, Text};
