@@ -1,5 +1,5 @@
 -- One more entry in a list's bytes, and one more block of bytes.
-use Rattle.std.proofs.Common.{◌≡◌, ℕ, zero, suc, ◌+◌, ◌-◌, ◌*◌, ◌/◌, ◌<◌, ◌≤◌, ◌⊎◌, inl, inr, ◌++◌, min, List, [], ◌∷◌, length, take, drop, get_or, refl, sym, ap, subst, ◌∙◌, arith, append_assoc, length-take, length-drop, Ok, Err, OnOk, Result, replicate}
+use Rattle.std.proofs.Common.{◌≡◌, ℕ, zero, suc, ◌+◌, ◌-◌, ◌<◌, ◌⊎◌, inl, inr, ◌++◌, min, List, [], ◌∷◌, length, take, drop, get_or, sym, ap, subst, ◌∙◌, arith, append_assoc, length-take, length-drop, Ok, Err, OnOk, Result, replicate}
 use Rattle.std.proofs.lemmas.List.{drop_more}
 use Rattle.term_core.specs.declared.pattern.IdTriple.{IdTriple}
 use Rattle.btree_build.specs.Lists.{entry_bytes, list_bytes, block_with, in_blocks, blocks_for}
@@ -54,8 +54,8 @@ blocks_more p count old mid new all rest next payload some is front back behind 
     let long : length (take p rest) ≡ count = length-take p rest ∙ sym is in
     let count_left : blocks_for p (length next) ≡ m = ap (blocks_for p) (ap length left ∙ length-drop p rest) in
     let block : new ≡ old ++ block_with p rest =
-        back ∙ ap (λ l. l ++ replicate (4096 - count) 0) (front ∙ ap (λ l. old ++ l) piece) ∙ append_assoc old (take p rest) (replicate (4096 - count) 0)
-        ∙ ap (λ n. old ++ (take p rest ++ replicate (4096 - n) 0)) (sym long) in
+    back ∙ ap (λ l. l ++ replicate (4096 - count) 0) (front ∙ ap (λ l. old ++ l) piece) ∙ append_assoc old (take p rest) (replicate (4096 - count) 0)
+    ∙ ap (λ n. old ++ (take p rest ++ replicate (4096 - n) 0)) (sym long) in
     let tail : in_blocks p (blocks_for p (length next)) next ≡ in_blocks p m (drop p rest) = ap (λ n. in_blocks p n next) count_left ∙ ap (in_blocks p m) left in
     let whole : in_blocks p (blocks_for p (length rest)) rest ≡ block_with p rest ++ in_blocks p m (drop p rest) = ap (λ n. in_blocks p n rest) (one_block p (length rest) payload some) in
     ap (λ l. l ++ in_blocks p (blocks_for p (length next)) next) block ∙ ap (λ l. (old ++ block_with p rest) ++ l) tail

@@ -1,5 +1,5 @@
 -- A search by halves: what is left, and where it ends.
-use Rattle.std.proofs.Common.{◌≡◌, ℕ, zero, suc, ◌+◌, ◌*◌, ◌^◌, ◌<◌, ◌≤◌, List, Bool, true, false, sym, ap, subst, ◌∙◌, arith, Ok, Err, IfOk, Result}
+use Rattle.std.proofs.Common.{◌≡◌, ℕ, ◌*◌, ◌^◌, ◌≤◌, List, Bool, sym, ap, ◌∙◌, arith, Ok, Err, IfOk, Result}
 use Rattle.term_core.specs.declared.pattern.IdTriple.{IdTriple}
 use Rattle.btree_scan.specs.declared.tree.Tree.{Tree}
 use Rattle.btree_scan.specs.Entries.{entry_at}

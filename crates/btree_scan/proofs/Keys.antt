@@ -1,5 +1,5 @@
 -- In a list of keys that rise strictly, those before a cut stand in front.
-use Rattle.std.proofs.Common.{◌≡◌, ℕ, zero, suc, ◌+◌, ◌-◌, ◌<◌, ◌≤◌, ◌==◌, ◌↔◌, List, [], ◌∷◌, length, get_or, count_by, Some, Bool, true, false, cond, Less, Equal, Greater, refl, sym, ap, subst, ◌∙◌, arith}
+use Rattle.std.proofs.Common.{◌≡◌, ℕ, zero, suc, ◌+◌, ◌-◌, ◌<◌, ◌≤◌, ◌==◌, List, [], ◌∷◌, length, get_or, count_by, Some, Bool, true, false, cond, Less, Equal, Greater, refl, sym, ap, subst, ◌∙◌, arith}
 use Rattle.std.specs.Prelude.{if◌then◌else◌}
 use Rattle.std.specs.List.{slice_get}
 use Rattle.std.specs.declared.cmp.Ordering.{Ordering}
@@ -15,8 +15,8 @@ use Rattle.term_core.specs.Ids.{id_cmp}
 use Rattle.term_core.proofs.IdOrder.{ids_total}
 use Rattle.btree_scan.specs.declared.tree.Tree.{Tree}
 use Rattle.btree_scan.specs.declared.prefix.Prefix.{Prefix}
-use Rattle.btree_scan.specs.Entries.{Lists, entry_at}
-use Rattle.btree_scan.specs.Cuts.{front_cmp, prefix_cmp, key_of, HasPrefix, before, IsEdge, IsRange}
+use Rattle.btree_scan.specs.Entries.{Lists}
+use Rattle.btree_scan.specs.Cuts.{front_cmp, prefix_cmp, key_of, before, IsEdge, IsRange}
 
 -- what stands in front of a key that passes passes too
 abbrev pub IsFront : (IdTriple → Bool) → List IdTriple → Type 0

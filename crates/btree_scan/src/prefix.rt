@@ -39,5 +39,9 @@ pub(crate) fn is_before(through: bool, prefix: &Prefix, key: &IdTriple) -> bool
     ensures { result ≡ before through prefix.now key.now }
 {
     let order = front_order(prefix, key);
-    if through { order.is_le() } else { order.is_lt() }
+    if through {
+        order.is_le()
+    } else {
+        order.is_lt()
+    }
 }

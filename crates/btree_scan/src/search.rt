@@ -49,11 +49,7 @@ fn cut_place<B: Blocks>(
 ///
 /// `Blocks` comes only where a read failed; `Damaged` never. At most 44 blocks are read, two for
 /// each of 22 steps.
-pub fn lower_bound<B: Blocks>(
-    tree: &Tree,
-    blocks: &mut B,
-    key: &IdTriple,
-) -> Result<u32, ReadFault>
+pub fn lower_bound<B: Blocks>(tree: &Tree, blocks: &mut B, key: &IdTriple) -> Result<u32, ReadFault>
     requires lies { Lies tree.now (B.device blocks.old).count }
     ensures read { HasRead (B.device blocks.old) (B.device blocks.new) 44 }
     ensures failed { OnErr result (Rose (B.device blocks.old).faults (B.device blocks.new).faults) }
@@ -89,7 +85,7 @@ pub fn range<B: Blocks>(
     ensures whole { (block : ℕ) → result ≡ Err (ReadFault.Damaged block) → ⊥ }
     ensures edges { (image : List ℕ) → Tells (B.device blocks.old).image image
         → IfOk result (λ x. IsEdge tree.now (before false prefix.now) image x.0
-            × IsEdge tree.now (before true prefix.now) image x.1) }
+        × IsEdge tree.now (before true prefix.now) image x.1) }
     ensures found { (es : List IdTriple) (image : List ℕ) → Tells (B.device blocks.old).image image
         → Lists tree.now es image → IfOk result (λ x. IsRange prefix.now es x.0 x.1) }
 {

@@ -1,5 +1,5 @@
 // Entries by their places.
-ghost use Rattle.std.specs.Prelude.{◌≡◌, ◌<◌, ◌≤◌, ◌+◌, ◌*◌, ◌%◌, ℕ, List, OnErr, OnOk, IfOk, length, take, drop, Err};
+ghost use Rattle.std.specs.Prelude.{◌≡◌, ◌<◌, ◌≤◌, ◌+◌, ◌*◌, ◌%◌, ℕ, List, OnErr, OnOk, IfOk, length, take, drop, Err, IsTrue, ◌↔◌};
 ghost use Rattle.sage_outside.specs.Causes.{Rose};
 ghost use Rattle.sage_outside.specs.Blocks.{HasRead, Tells, block_at};
 ghost use Rattle.term_dict.specs.Areas.{Fits, part_of};
@@ -17,6 +17,21 @@ pub struct Tree {
     pub entries: u32,
     /// The bytes that a block keeps, 4096 or 4080.
     pub payload: u32,
+}
+
+impl Tree {
+    /// Whether the payload is 4096 or 4080, the entries are at most 4,194,303, and the list is
+    /// within so many blocks.
+    pub fn lies(&self, count: u32) -> bool
+        ensures { IsTrue result ↔ Lies self.now count }
+    {
+        if self.payload != 4096 && self.payload != 4080 {
+            return false;
+        }
+        let payload = self.payload as u64;
+        let end = self.first as u64 * payload + 12 * self.entries as u64;
+        self.entries <= 4194303 && end <= count as u64 * payload
+    }
 }
 
 /// Fills the piece with the bytes of block `n` from the place `from` on.

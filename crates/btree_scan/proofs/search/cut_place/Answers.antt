@@ -1,4 +1,4 @@
-use Rattle.std.proofs.Common.{◌≡◌, ◌+◌, ◌-◌, ◌/◌, ◌≤◌, arith, sym, ◌∙◌, true, false}
+use Rattle.std.proofs.Common.{◌≡◌, ◌+◌, ◌-◌, ◌/◌, arith, sym, ◌∙◌, true, false}
 use Rattle.term_dict.proofs.Answered.{still, if_ok}
 use Rattle.term_dict.proofs.Halves.{halved}
 use Rattle.btree_scan.specs.Entries.{entry_at}

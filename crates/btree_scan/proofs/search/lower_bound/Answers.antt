@@ -1,6 +1,4 @@
-use Rattle.std.proofs.Common.{◌≡◌, ℕ, count_by, false}
-use Rattle.std.specs.Ordering.{is_lt}
-use Rattle.term_core.specs.Ids.{id_cmp}
+use Rattle.std.proofs.Common.{◌≡◌, count_by, false}
 use Rattle.btree_scan.specs.declared.prefix.Prefix.{Prefix}
 use Rattle.btree_scan.specs.Cuts.{IsEdge, before, front_cmp}
 use Rattle.btree_scan.proofs.Keys.{edge_counts}

@@ -16,4 +16,4 @@ returns-clause-found g c = λ es image tells lists.
     edges_range c.args.tree.now es image c.args.prefix.now c.in_ok-first.first c.in_ok-end.end lists
     (if_ok c.cut_place.result c.in_ok-first.first (IsEdge c.args.tree.now (before false c.args.prefix.now) image) c.in_ok-first.was (c.cut_place.ensures.edge image tells))
     (if_ok c.cut_place-2.result c.in_ok-end.end (IsEdge c.args.tree.now (before true c.args.prefix.now) image) c.in_ok-end.was
-        (c.cut_place-2.ensures.edge image (still _ _ image c.cut_place.ensures.read.image tells)))
+    (c.cut_place-2.ensures.edge image (still _ _ image c.cut_place.ensures.read.image tells)))
