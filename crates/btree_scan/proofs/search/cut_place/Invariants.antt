@@ -1,0 +1,19 @@
+use Rattle.std.proofs.Common.{◌≡◌, ◌≤◌, ◌<◌, ◌-◌, ◌+◌, ◌*◌, ◌^◌, ℕ, List, true, false}
+use Rattle.sage_outside.specs.Blocks.{Tells}
+use Rattle.btree_scan.specs.Entries.{entry_at}
+use Rattle.btree_scan.specs.Cuts.{before}
+use Rattle.btree_scan.proofs.search.cut_place.Given as goal
+
+abbrev pub invariant-loop-step : goal.invariant-loop-step
+invariant-loop-step g l = record {
+  image : (g.B.Blocks.device l.blocks).image ≡ (g.B.Blocks.device l.initial.blocks).image;
+  count : (g.B.Blocks.device l.blocks).count ≡ (g.B.Blocks.device l.initial.blocks).count;
+  later : (g.B.Blocks.device l.initial.blocks).faults ≤ (g.B.Blocks.device l.blocks).faults;
+  risen : (g.B.Blocks.device l.initial.blocks).reads ≤ (g.B.Blocks.device l.blocks).reads;
+  cost : (g.B.Blocks.device l.blocks).reads ≤ (g.B.Blocks.device l.initial.blocks).reads + 2 * l.step;
+  ordered : l.low ≤ l.high;
+  high : l.high ≤ l.tree.entries;
+  small : (l.high - l.low) * 2 ^ l.step ≤ l.tree.entries;
+  lower : (image : List ℕ) → Tells (g.B.Blocks.device l.initial.blocks).image image → (k : ℕ) → k + 1 ≡ l.low → before l.through l.prefix (entry_at l.tree k image) ≡ true;
+  upper : (image : List ℕ) → Tells (g.B.Blocks.device l.initial.blocks).image image → l.high < l.tree.entries → before l.through l.prefix (entry_at l.tree l.high image) ≡ false;
+}
