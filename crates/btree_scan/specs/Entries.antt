@@ -10,7 +10,11 @@ use Rattle.btree_scan.specs.declared.tree.Tree.{Tree}
 
 -- the entry that twelve bytes spell: three ids in four bytes each, the highest first
 unfoldable pub entry_in : List ℕ → IdTriple
-entry_in bytes = record { s = from_be_bytes w32 (take 4 bytes); p = from_be_bytes w32 (take 4 (drop 4 bytes)); o = from_be_bytes w32 (take 4 (drop 8 bytes)) }
+entry_in bytes = record {
+  s = from_be_bytes w32 (take 4 bytes);
+  p = from_be_bytes w32 (take 4 (drop 4 bytes));
+  o = from_be_bytes w32 (take 4 (drop 8 bytes));
+}
 
 -- the blocks from the first one of a list on
 abbrev pub area_of : Tree → Area
