@@ -1,0 +1,6 @@
+//! What the tokens of a query text are to the grammar: keywords, signs, and values with their escapes undone.
+#![tactic(auto)]
+
+mod symbol;
+
+pub use symbol::{Shape, Symbol};
