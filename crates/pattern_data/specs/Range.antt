@@ -15,25 +15,14 @@ use Rattle.pattern_data.specs.declared.range.Wanted.{Wanted}
 use Rattle.pattern_data.specs.declared.range.Wanted.TheVariants.{Any, Only, Nothing}
 use Rattle.pattern_data.specs.declared.range.Asked.{Asked}
 use Rattle.pattern_data.specs.declared.range.Range.{Range}
-use Rattle.pattern_data.specs.Table.{decode, AreBelow}
+use Rattle.triple_table.specs.Table.{decode, AreBelow}
+use Rattle.triple_table.specs.Keys.{key_of, ids_of_key}
 
 -- the index that an order is of
 abbrev pub index_in : Order → Index
 index_in Subject = by_subject
 index_in Predicate = by_predicate
 index_in Object = by_object
-
--- a triple's numbers in the order in which an index compares them
-abbrev pub key_of : Index → IdTriple → IdTriple
-key_of by_subject ids = ids
-key_of by_predicate ids = record { s = ids.p; p = ids.o; o = ids.s }
-key_of by_object ids = record { s = ids.o; p = ids.s; o = ids.p }
-
--- the triple with such a key
-abbrev pub ids_of_key : Index → IdTriple → IdTriple
-ids_of_key by_subject key = key
-ids_of_key by_predicate key = record { s = key.o; p = key.s; o = key.p }
-ids_of_key by_object key = record { s = key.p; p = key.o; o = key.s }
 
 -- whether a number may stand where one is wanted
 abbrev pub admits : Wanted → ℕ → Bool

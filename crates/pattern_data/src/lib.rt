@@ -1,13 +1,8 @@
-//! The data in memory: a dictionary of terms, triples by the numbers of their terms, and the triples of a pattern.
+//! The triples of a pattern, in the order of its index.
 #![tactic(auto)]
 
 mod range;
-mod slot;
-mod table;
-mod table_id;
 #[cfg(test)]
-mod table_tests;
+mod range_tests;
 
 pub use range::{Range, range_of};
-pub use table::Table;
-pub use table_id::data_id;

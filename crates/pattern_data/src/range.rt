@@ -8,11 +8,11 @@ ghost use Rattle.term_core.specs.Ids.{id_cmp};
 ghost use Rattle.sparql_tree.specs.Bgp.{position_of, pattern_of, filled};
 ghost use Rattle.plan_tree.specs.Index.{index_of};
 ghost use Rattle.plan_tree.specs.Trace.{fits};
-ghost use Rattle.pattern_data.specs.Table.{IsTable, IsFound, terms_in, ids_in, term_at};
-ghost use Rattle.pattern_data.specs.Range.{index_in, key_of, ids_of_key, admits, takes, keys_in, triples_in, IsRangeOf};
+ghost use Rattle.triple_table.specs.Table.{IsTable, IsFound, terms_in, ids_in, term_at};
+ghost use Rattle.triple_table.specs.Keys.{key_of, ids_of_key};
+ghost use Rattle.pattern_data.specs.Range.{index_in, admits, takes, keys_in, triples_in, IsRangeOf};
 
-use crate::Table;
-use crate::table::order_ids;
+use triple_table::{Table, order_ids};
 use std::alloc::Global;
 use term_core::{IdTriple, Memory, Pattern, Place};
 

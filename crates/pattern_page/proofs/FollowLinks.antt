@@ -18,8 +18,9 @@ use Rattle.plan_tree.proofs.Spelled.{next_placed}
 use Rattle.pattern_data.specs.declared.range.Range.{Range}
 use Rattle.pattern_page.specs.declared.page.Part.{Part}
 use Rattle.pattern_page.specs.declared.page.Page as code_page
-use Rattle.pattern_data.specs.Table.{terms_in}
-use Rattle.pattern_data.specs.Range.{triples_in, ids_of_key, index_at}
+use Rattle.triple_table.specs.Table.{terms_in}
+use Rattle.triple_table.specs.Keys.{ids_of_key}
+use Rattle.pattern_data.specs.Range.{triples_in, index_at}
 use Rattle.pattern_page.specs.Part.{part_text, part_plan}
 use Rattle.pattern_page.specs.PagesOf.{IsPart, page_of, Answers}
 use Rattle.pattern_page.specs.Followed.{Begins}

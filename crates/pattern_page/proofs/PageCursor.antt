@@ -13,7 +13,7 @@ use Rattle.pattern_page.specs.declared.page.Part.{Part}
 use Rattle.pattern_page.specs.declared.page.Cursor.{Cursor}
 use Rattle.pattern_page.specs.declared.page.Cursor.TheVariants as cursors
 use Rattle.pattern_page.specs.declared.state.State.TheVariants as states
-use Rattle.pattern_data.specs.Table.{terms_in, IsBelow, IsFound}
+use Rattle.triple_table.specs.Table.{terms_in, IsBelow, IsFound}
 use Rattle.pattern_data.specs.Range.{triples_in}
 use Rattle.pattern_page.specs.StateReading.{at_state, state_at, AreSmall, AreBytes}
 use Rattle.pattern_page.specs.PagesOf.{entry_at, rest_of, IsWithin, IsSound, cursor_state, spelled, saved_at, IsBehind, IsNamed, Loads}

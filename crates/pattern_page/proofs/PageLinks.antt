@@ -25,7 +25,7 @@ use Rattle.pattern_page.specs.declared.page.Page as code_page
 use Rattle.pattern_page.specs.declared.page.PageFault.TheVariants as faults
 use Rattle.pattern_page.specs.declared.page.Cursor.{Cursor}
 use Rattle.pattern_page.specs.declared.page.Cursor.TheVariants as cursors
-use Rattle.pattern_data.specs.Table.{terms_in, term_at, decode, IsBelow}
+use Rattle.triple_table.specs.Table.{terms_in, term_at, decode, IsBelow}
 use Rattle.pattern_data.specs.Range.{triples_in}
 use Rattle.pattern_page.specs.Part.{part_text, part_plan}
 use Rattle.pattern_page.specs.StateReading.{at_state}

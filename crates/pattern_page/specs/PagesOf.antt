@@ -13,7 +13,7 @@ use Rattle.plan_tree.specs.States.{State, Stands}
 use Rattle.plan_tree.specs.Spelling.{data_id, state_bytes, plan_bytes}
 use Rattle.plan_tree.specs.OnePattern.{matches, solution_of, fresh_state, opened_state, closing_state}
 use Rattle.plan_tree.specs.Pages.{Page, IsPage}
-use Rattle.pattern_data.specs.declared.table.Table.{Table}
+use Rattle.triple_table.specs.declared.table.Table.{Table}
 use Rattle.pattern_page.specs.declared.page.Part.{Part}
 use Rattle.pattern_page.specs.declared.page.Page as code_page
 use Rattle.pattern_page.specs.declared.page.PageFault.{PageFault}
@@ -22,7 +22,7 @@ use Rattle.pattern_page.specs.declared.page.Cursor.{Cursor}
 use Rattle.pattern_page.specs.declared.page.Cursor.TheVariants as cursors
 use Rattle.pattern_page.specs.declared.page.Step.{Step}
 use Rattle.pattern_page.specs.declared.page.Stretch.{Stretch}
-use Rattle.pattern_data.specs.Table.{decode, AreBelow, IsTable, terms_in, ids_in}
+use Rattle.triple_table.specs.Table.{decode, AreBelow, IsTable, terms_in, ids_in}
 use Rattle.pattern_data.specs.Range.{keys_in, triples_in}
 use Rattle.pattern_page.specs.Part.{part_text, part_plan}
 use Rattle.pattern_page.specs.StateReading.{at_state}

@@ -7,17 +7,18 @@ ghost use Rattle.term_core.specs.declared.term.Triple.{Triple};
 ghost use Rattle.term_core.specs.Mappings.{value};
 ghost use Rattle.sparql_tree.specs.Bgp.{label_name, position_of};
 ghost use Rattle.plan_tree.specs.Trace.{put as put_name, bind_at, rows_of, steps};
-ghost use Rattle.pattern_data.specs.Table.{IsTable, IsBelow, terms_in, ids_in};
+ghost use Rattle.triple_table.specs.Table.{IsTable, IsBelow, terms_in, ids_in};
 ghost use Rattle.pattern_page.specs.Part.{place_text, part_text, part_plan};
 ghost use Rattle.pattern_page.specs.StateReading.{state_of};
 ghost use Rattle.pattern_page.specs.PagesOf.{IsPart, entry_at, IsWithin, IsSound, HasData, HasTriples, GivesAt, IsMore, cursor_state, saved_at, IsBehind, IsNamed, Loads, Starts, Gives, IsStretch, IsPageFrom, Answers};
 
 use crate::state::{State, parse_state, push_state};
 use nt_text::push_term;
-use pattern_data::{Range, Table, data_id, range_of};
+use pattern_data::{Range, range_of};
 use sha2::{Digest, Sha256};
 use std::alloc::Global;
 use term_core::{IdTriple, Items, Memory, Pattern, Place, Row, Term, Text, TextFault};
+use triple_table::{Table, data_id};
 
 /// The first byte of a suspended plan.
 const VERSION: u8 = 2;

@@ -4,7 +4,7 @@ use crate::tsv::push_line;
 use crate::{
     Counts, Page, PageFault, Part, State, follow_pages, parse_state, push_header, push_state,
 };
-use pattern_data::Table;
+use triple_table::Table;
 use std::alloc::Global;
 use std::test::Fail;
 use term_core::{IdTriple, Memory, Pattern, Place, Row, Term, Text, TextFault, Triple};

@@ -4,13 +4,13 @@ ghost use Rattle.term_core.specs.declared.term.Triple.{Triple as Triples};
 ghost use Rattle.term_core.specs.declared.pattern.Pattern.{Pattern as Patterns};
 ghost use Rattle.plan_tree.specs.Laws.{AreVariables};
 ghost use Rattle.plan_tree.specs.Pages.{AreQuanta};
-ghost use Rattle.pattern_data.specs.Table.{IsTable, terms_in, ids_in};
+ghost use Rattle.triple_table.specs.Table.{IsTable, terms_in, ids_in};
 ghost use Rattle.pattern_page.specs.PagesOf.{IsPart, HasData, HasTriples};
 ghost use Rattle.sage.specs.Outcome.{AnswersOver};
 ghost use Rattle.sage.specs.Refusals.{Answered, ReadsData, ReadsQuery};
 
 use nt_text::{DataFault, read_document};
-use pattern_data::Table;
+use triple_table::Table;
 use pattern_page::{Part, counts_text, follow_pages, push_header};
 use pattern_query::{QueryFault, SelectQuery, read_query};
 use std::alloc::Global;

@@ -1,5 +1,5 @@
 use Rattle.std.proofs.Common.{sym, ap, is_some}
-use Rattle.pattern_data.proofs.TableRange.{filled_var, filled_blank}
+use Rattle.pattern_data.proofs.Ranges.{filled_var, filled_blank}
 use Rattle.pattern_data.proofs.range.is_known.Goals as goal
 
 pub returns-in-Var : goal.returns-in-Var

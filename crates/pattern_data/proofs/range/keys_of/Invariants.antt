@@ -1,5 +1,6 @@
 use Rattle.std.proofs.Common.{◌≡◌, map, filter, take}
-use Rattle.pattern_data.specs.Range.{index_in, key_of, takes}
+use Rattle.triple_table.specs.Keys.{key_of}
+use Rattle.pattern_data.specs.Range.{index_in, takes}
 use Rattle.pattern_data.proofs.range.keys_of.Given as goal
 
 abbrev pub invariant-loop-ids : goal.invariant-loop-ids

@@ -1,9 +1,10 @@
 use Rattle.std.proofs.Common.{◌∙◌, sym, ap, subst, map, filter, Contains}
 use Rattle.sparql_tree.specs.Bgp.{pattern_of}
 use Rattle.pattern_data.specs.declared.range.Asked.{Asked}
-use Rattle.pattern_data.specs.Table.{terms_in, ids_in}
-use Rattle.pattern_data.specs.Range.{index_in, key_of, takes}
-use Rattle.pattern_data.proofs.TableRange.{asked_is, range_from}
+use Rattle.triple_table.specs.Table.{terms_in, ids_in}
+use Rattle.triple_table.specs.Keys.{key_of}
+use Rattle.pattern_data.specs.Range.{index_in, takes}
+use Rattle.pattern_data.proofs.Ranges.{asked_is, range_from}
 use Rattle.pattern_data.proofs.range.range_of.Goals as goal
 
 pub returns : goal.returns

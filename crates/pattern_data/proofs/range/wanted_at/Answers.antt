@@ -1,7 +1,7 @@
 use Rattle.std.proofs.Common.{sym, ap, ◌∙◌, subst}
 use Rattle.plan_tree.specs.Trace.{fits}
-use Rattle.pattern_data.specs.Table.{IsFound, terms_in, term_at}
-use Rattle.pattern_data.proofs.TableRange.{filled_term, filled_var, filled_blank, wants_only, wants_nothing}
+use Rattle.triple_table.specs.Table.{IsFound, terms_in, term_at}
+use Rattle.pattern_data.proofs.Ranges.{filled_term, filled_var, filled_blank, wants_only, wants_nothing}
 use Rattle.pattern_data.proofs.range.wanted_at.Goals as goal
 
 pub returns-in-Some : goal.returns-in-Some

@@ -5,10 +5,11 @@ use Rattle.term_core.specs.Ids.{id_cmp}
 use Rattle.term_core.specs.Bags.{In}
 use Rattle.term_core.proofs.IdOrder.{ids_total, same_ids}
 use Rattle.pattern_data.specs.declared.range.Range.{Range}
-use Rattle.pattern_data.specs.Table.{IsFound}
-use Rattle.pattern_data.specs.Range.{key_of, ids_of_key, index_at, keys_in, triples_in}
-use Rattle.pattern_data.proofs.TableFound.{missing, found, at_ok, at_err, found-map}
-use Rattle.pattern_data.proofs.TableRange.{undone, redone}
+use Rattle.triple_table.specs.Table.{IsFound}
+use Rattle.triple_table.specs.Keys.{key_of, ids_of_key}
+use Rattle.pattern_data.specs.Range.{index_at, keys_in, triples_in}
+use Rattle.triple_table.proofs.TableFound.{missing, found, at_ok, at_err, found-map}
+use Rattle.triple_table.proofs.Keys.{undone, redone}
 use Rattle.pattern_data.proofs.range.Range.place_of.Goals as goal
 
 found_by_key : (r : Range) (ids key : IdTriple) (place : Option ℕ) → key ≡ key_of (index_at r) ids → IsFound (keys_in r) key place → IsFound (triples_in r) ids place
