@@ -1,6 +1,8 @@
 //! The set of triples behind a store file: terms by their ranks, and triples in three orders.
 #![tactic(auto)]
 
+mod range;
 mod store;
 
+pub use range::Range;
 pub use store::{Info, OpenFault, Store, Unopened};
