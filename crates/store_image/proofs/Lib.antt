@@ -1,3 +1,5 @@
 pub mod Padding
 pub mod Areas
 pub mod Sizes
+pub mod Headers
+pub mod Images
