@@ -46,3 +46,17 @@ module _ (first : ℕ) (bytes image : List ℕ) (b : Begins first bytes image) w
 
   pub blocks_begin : take (length (padded bytes)) (drop (4096 * first) image) ≡ padded bytes
   blocks_begin = ap (take (length (padded bytes))) from_first ∙ take_at (padded bytes) b.behind (length (padded bytes)) refl
+
+-- two pieces behind a list
+then_put : (old mid new a b : List ℕ) → mid ≡ old ++ a → new ≡ mid ++ b → new ≡ old ++ (a ++ b)
+then_put old mid new a b first second = second ∙ ap (λ l. l ++ b) first ∙ append_assoc old a b
+
+-- six pieces, one behind the other
+pub six_put : (o0 o1 o2 o3 o4 o5 o6 a0 a1 a2 a3 a4 a5 : List ℕ) → o0 ≡ [] → o1 ≡ o0 ++ a0 → o2 ≡ o1 ++ a1 → o3 ≡ o2 ++ a2 → o4 ≡ o3 ++ a3 → o5 ≡ o4 ++ a4 → o6 ≡ o5 ++ a5
+    → o6 ≡ a0 ++ (a1 ++ (a2 ++ (a3 ++ (a4 ++ a5))))
+six_put o0 o1 o2 o3 o4 o5 o6 a0 a1 a2 a3 a4 a5 e0 e1 e2 e3 e4 e5 e6 =
+    let from4 : o6 ≡ o4 ++ (a4 ++ a5) = then_put o4 o5 o6 a4 a5 e5 e6 in
+    let from3 : o6 ≡ o3 ++ (a3 ++ (a4 ++ a5)) = then_put o3 o4 o6 a3 (a4 ++ a5) e4 from4 in
+    let from2 : o6 ≡ o2 ++ (a2 ++ (a3 ++ (a4 ++ a5))) = then_put o2 o3 o6 a2 (a3 ++ (a4 ++ a5)) e3 from3 in
+    let from1 : o6 ≡ o1 ++ (a1 ++ (a2 ++ (a3 ++ (a4 ++ a5)))) = then_put o1 o2 o6 a1 (a2 ++ (a3 ++ (a4 ++ a5))) e2 from2 in
+    then_put o0 o1 o6 a0 (a1 ++ (a2 ++ (a3 ++ (a4 ++ a5)))) e1 from1 ∙ ap (λ l. l ++ (a0 ++ (a1 ++ (a2 ++ (a3 ++ (a4 ++ a5)))))) e0

@@ -80,3 +80,10 @@ in_blocks_padded (suc n) bytes h = ⊎_elim
     (λ more. ap (λ l. block_with 4096 bytes ++ l) (in_blocks_padded n (drop 4096 bytes) (omega (arith, length-drop 4096 bytes))) ∙ full_block bytes more)
     (λ le. let last : n ≡ 0 = omega arith in ap (λ k. block_with 4096 bytes ++ in_blocks 4096 k (drop 4096 bytes)) last ∙ last_block bytes le (omega arith))
     (cases_lt 4096 (length bytes))
+
+-- what is put behind whole blocks and filled up is put as whole blocks
+pub padded_put : (old bytes mid new : List ℕ) → length old % 4096 ≡ 0 → mid ≡ old ++ bytes → new ≡ padded mid → new ≡ old ++ padded bytes
+padded_put old bytes mid new whole put filled = filled ∙ ap padded put ∙ padded_behind old bytes whole
+
+pub whole_padded : (bytes new : List ℕ) → new ≡ padded bytes → length new % 4096 ≡ 0
+whole_padded bytes new e = omega (arith, ap length e, length_padded bytes)

@@ -14,7 +14,8 @@ use Rattle.plan_tree.specs.Index.{by_subject, triple_cmp, in_order}
 use Rattle.plan_tree.proofs.Orders.{AreDistinct-ordered}
 use Rattle.plan_tree.proofs.Ranges.{index_total, listing_is}
 use Rattle.term_dict.specs.Records.{record_of}
-use Rattle.term_dict.specs.Built.{records_of, places_from, longest_of}
+use Rattle.term_dict.specs.Built.{records_of, places_from, longest_of, AreShort}
+use Rattle.plan_tree.proofs.Ranked.{In-slice_get, slice_get-In}
 use Rattle.term_dict.proofs.Steps.{record_short}
 use Rattle.btree_build.specs.Lists.{entry_bytes, list_bytes}
 use Rattle.triple_table.specs.Table.{decode, IsTable}
@@ -46,6 +47,17 @@ records_short (t ∷ ts) short =
 pub longest_short : (ts : List Term) → ((t : Term) → In ts t → size_of t ≤ 262144) → longest_of ts ≤ 262153
 longest_short [] short = omega arith
 longest_short (t ∷ ts) short = omega (arith, record_short t (short t (inl refl)), longest_short ts (λ u i. short u (inr i)))
+
+-- the limit of each, by membership and by place
+pub short_members : (ts : List Term) → AreShort ts → (t : Term) → In ts t → size_of t ≤ 262144
+short_members ts short t i = let at = slice_get-In ts t i in short at.0 t at.1
+
+pub short_places : (ts : List Term) → ((t : Term) → In ts t → size_of t ≤ 262144) → AreShort ts
+short_places ts short k t at = short t (In-slice_get ts k t at)
+
+-- a number of 64 bits counts the bytes of all records
+pub extent_small : (ts us : List Term) (n : ℕ) → ts ≡ us → AreShort us → length us ≤ 12582909 → n ≡ length (records_of ts) → n ≤ 12582909 * 262153
+extent_small ts us n same short few is = omega (arith, ap (λ l. length (records_of l)) same, records_short us (short_members us short))
 
 module _ (L : List Triple) (terms : List Term) (ids : List IdTriple) (table : IsTable L terms ids) where
   listed : length ids ≡ length (in_order (triple_cmp by_subject) L)

@@ -52,11 +52,16 @@ header_of terms ids name = record {
   data_id = name;
 }
 
--- the areas, each from a new block on: header, places, records, and the lists by subject, by predicate and by object
-abbrev pub image_of : List Term → List IdTriple → List ℕ → List ℕ
-image_of terms ids name =
-    padded (header_bytes (header_of terms ids name)) ++ (padded (place_bytes terms) ++ (padded (records_of terms)
+-- the areas behind one another, each from a new block on: header, places, records, and the lists by subject, by
+-- predicate and by object
+abbrev pub areas : Header → List Term → List IdTriple → List ℕ
+areas h terms ids =
+    padded (header_bytes h) ++ (padded (place_bytes terms) ++ (padded (records_of terms)
     ++ (padded (list_bytes (keys_by by_subject ids)) ++ (padded (list_bytes (keys_by by_predicate ids)) ++ padded (list_bytes (keys_by by_object ids))))))
+
+-- the bytes of a file of these terms and triples, with such a name
+abbrev pub image_of : List Term → List IdTriple → List ℕ → List ℕ
+image_of terms ids name = areas (header_of terms ids name) terms ids
 
 -- the bytes are the image of the data, a set of triples
 pub record IsImage (L : List Triple) (image : List ℕ) : Type 0 where
