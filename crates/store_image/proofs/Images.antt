@@ -1,6 +1,5 @@
 -- The image of the data holds the data.
-use Rattle.std.proofs.Common.{◌≡◌, ℕ, zero, suc, ◌+◌, ◌-◌, ◌*◌, ◌/◌, ◌^◌, ◌<◌, ◌≤◌, ◌++◌, List, [], ◌∷◌, length, take, drop, Some, refl, sym, ap, ◌∙◌, subst, inl, arith, length-append}
-use Rattle.std.specs.List.{slice_get}
+use Rattle.std.proofs.Common.{◌≡◌, ℕ, zero, suc, ◌+◌, ◌-◌, ◌*◌, ◌/◌, ◌^◌, ◌<◌, ◌≤◌, ◌++◌, List, length, take, drop, refl, sym, ap, ◌∙◌, subst, inl, arith, length-append}
 use Rattle.std.specs.Prelude.{flat_map}
 use Rattle.std.proofs.lemmas.List.{take_at}
 use Rattle.sha2.proofs.Facts256.{length-sha256}
@@ -16,19 +15,18 @@ use Rattle.plan_tree.specs.Spelling.{data_id}
 use Rattle.plan_tree.proofs.Ranked.{In-slice_get}
 use Rattle.term_dict.specs.Areas.{payloads}
 use Rattle.term_dict.specs.Built.{records_of, AreTexts, IsLaidOut}
-use Rattle.term_dict.specs.Ranks as dict
 use Rattle.term_dict.proofs.Layouts.{laid_out_holds}
 use Rattle.btree_build.specs.Lists.{list_bytes, list_image, blocks_for}
 use Rattle.btree_scan.specs.Entries.{Lists}
-use Rattle.btree_scan.specs.Written.{AreIds, IsWritten}
+use Rattle.btree_scan.specs.Written.{AreIds}
 use Rattle.btree_scan.specs.declared.tree.Tree.{Tree}
 use Rattle.btree_scan.proofs.Written.{lists_from_written}
-use Rattle.triple_table.specs.Table.{IsBelow, AreBelow, IsTable}
+use Rattle.triple_table.specs.Table.{IsBelow, IsTable}
 use Rattle.triple_table.specs.Keys.{order_of, ids_of_key, keys_by}
 use Rattle.triple_table.proofs.Keys.{sorted-keys_by, from_In-keys_by, length-keys_by}
 use Rattle.store_image.specs.declared.header.Header.{Header}
-use Rattle.store_image.specs.Header.{fixed_blocks, place_blocks, list_blocks, dict_of, tree_of, IsHeader}
-use Rattle.store_image.specs.Holds.{Shows, Holds}
+use Rattle.store_image.specs.Header.{place_blocks, list_blocks, dict_of, tree_of, IsHeader}
+use Rattle.store_image.specs.Holds.{Holds}
 use Rattle.store_image.specs.Image.{IsWithin, blocks_of, header_bytes, padded, place_bytes, header_of, image_of}
 use Rattle.store_image.proofs.Padding.{length_padded, in_blocks_padded}
 use Rattle.store_image.proofs.Areas.{Begins, at_first, at_end, behind_other, within, area_begins, blocks_begin}

@@ -3,3 +3,4 @@ pub mod Areas
 pub mod Sizes
 pub mod Headers
 pub mod Images
+pub mod Equal

@@ -1,6 +1,6 @@
 -- Bytes in whole blocks with zeros behind them, and what stands before and behind them.
-use Rattle.std.proofs.Common.{◌≡◌, ℕ, zero, suc, ◌+◌, ◌-◌, ◌*◌, ◌/◌, ◌%◌, ◌<◌, ◌≤◌, ◌++◌, List, [], ◌∷◌, length, take, drop, replicate, refl, sym, ap, ◌∙◌, ⊎_elim, arith, append_assoc, length-append, length-take, length-drop}
-use Rattle.std.proofs.lemmas.List.{take_at, drop_at, drop-drop, take-take, take-append-drop, length-replicate, append-nil}
+use Rattle.std.proofs.Common.{◌≡◌, ℕ, zero, suc, ◌+◌, ◌-◌, ◌*◌, ◌%◌, ◌<◌, ◌≤◌, ◌++◌, List, [], ◌∷◌, length, take, drop, replicate, refl, sym, ap, ◌∙◌, ⊎_elim, arith, append_assoc, length-append, length-take, length-drop}
+use Rattle.std.proofs.lemmas.List.{take_at, take-append-drop, length-replicate, append-nil}
 use Rattle.std.proofs.lemmas.Bool.{cases_lt}
 use Rattle.term_dict.specs.Areas.{payloads}
 use Rattle.term_dict.proofs.Parts.{joined}

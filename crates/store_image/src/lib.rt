@@ -3,6 +3,8 @@
 
 mod building;
 mod header;
+mod law;
 
 pub use building::image;
 pub use header::Header;
+pub use law::equal_sets_give_equal_images;

@@ -1,4 +1,4 @@
-use Rattle.std.proofs.Common.{map, arith}
+use Rattle.std.proofs.Common.{arith}
 use Rattle.triple_table.specs.Table.{terms_in}
 use Rattle.store_image.proofs.Sizes.{extent_small}
 use Rattle.store_image.proofs.building.header_of.Goals as goal

@@ -1,4 +1,4 @@
-use Rattle.std.proofs.Common.{◌≡◌, ◌++◌, [], List, ℕ, map, sym, ap, ◌∙◌, subst}
+use Rattle.std.proofs.Common.{◌≡◌, ◌++◌, sym, ap, ◌∙◌, subst}
 use Rattle.term_dict.specs.Built.{records_of, AreTexts}
 use Rattle.btree_build.specs.Lists.{list_bytes}
 use Rattle.plan_tree.specs.Index.{by_subject, by_predicate, by_object}
