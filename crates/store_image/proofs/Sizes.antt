@@ -1,5 +1,5 @@
 -- How many bytes the parts of an image take, and how many terms and triples there are.
-use Rattle.std.proofs.Common.{◌≡◌, ℕ, ◌+◌, ◌*◌, ◌≤◌, List, [], ◌∷◌, length, map, refl, sym, ap, ◌∙◌, subst, inl, inr, arith, length-append}
+use Rattle.std.proofs.Common.{◌≡◌, ℕ, ◌+◌, ◌*◌, ◌<◌, ◌≤◌, ◌++◌, List, [], ◌∷◌, length, map, take, get_or, refl, sym, ap, ◌∙◌, subst, ⊎_elim, inl, inr, arith, length-append}
 use Rattle.std.specs.Prelude.{flat_map}
 use Rattle.std.specs.Int.{w64, to_be_bytes}
 use Rattle.term_core.specs.declared.term.Term.{Term}
@@ -8,7 +8,8 @@ use Rattle.term_core.specs.declared.pattern.IdTriple.{IdTriple}
 use Rattle.term_core.specs.Order.{term_cmp, size_of}
 use Rattle.term_core.specs.OrderLaws.{terms_total}
 use Rattle.term_core.specs.Bags.{In}
-use Rattle.term_core.proofs.Bags.{In-flat_map, from_In-flat_map}
+use Rattle.std.proofs.lemmas.List.{take_more, flat_map_more}
+use Rattle.term_core.proofs.Bags.{In-append_cases, In-flat_map, from_In-flat_map}
 use Rattle.sparql_tree.specs.Bgp.{parts}
 use Rattle.plan_tree.specs.Index.{by_subject, triple_cmp, in_order}
 use Rattle.plan_tree.proofs.Orders.{AreDistinct-ordered}
@@ -19,7 +20,7 @@ use Rattle.plan_tree.proofs.Ranked.{In-slice_get, slice_get-In}
 use Rattle.term_dict.proofs.Steps.{record_short}
 use Rattle.btree_build.specs.Lists.{entry_bytes, list_bytes}
 use Rattle.triple_table.specs.Table.{decode, IsTable}
-use Rattle.triple_table.proofs.TableLists.{length-mapped}
+use Rattle.triple_table.proofs.TableLists.{length-mapped, In-get_or}
 use Rattle.triple_table.proofs.TableSlots.{length-parts}
 use Rattle.triple_table.proofs.Keys.{distinct_fewer}
 
@@ -77,3 +78,15 @@ module _ (L : List Triple) (terms : List Term) (ids : List IdTriple) (table : Is
         distinct_fewer terms (flat_map parts all) (AreDistinct-ordered term_cmp terms_total terms table.rising)
         (λ t i. let r = from_In-flat_map parts L t (table.to t i) in
         In-flat_map parts all r.0 t (subst (λ l. In l r.0) (sym table.listing) ((listing_is by_subject L).is.same.from r.0 r.1)) r.2))
+
+-- terms within the limit, with those of one more triple
+pub terms_more : (P : Term → Type 0) (L : List Triple) (i : ℕ) (x : Triple) → i < length L → x ≡ get_or L i x → ((t : Term) → In (parts x) t → P t)
+    → ((t : Term) → In (flat_map parts (take i L)) t → P t) → (t : Term) → In (flat_map parts (take (i + 1) L)) t → P t
+terms_more P L i x lt is here before t m =
+    let more : take (i + 1) L ≡ take i L ++ x ∷ [] = take_more L i x lt ∙ ap (λ y. take i L ++ y ∷ []) (sym is) in
+    let all : flat_map parts (take (i + 1) L) ≡ flat_map parts (take i L) ++ parts x = ap (flat_map parts) more ∙ sym (flat_map_more parts [] (take i L) x) in
+    ⊎_elim (before t) (here t) (In-append_cases (flat_map parts (take i L)) (parts x) t (subst (λ l. In l t) all m))
+
+-- the terms of a triple are among those of the list
+pub terms_of_one : (L : List Triple) (i : ℕ) (x : Triple) → i < length L → x ≡ get_or L i x → (t : Term) → In (parts x) t → In (flat_map parts L) t
+terms_of_one L i x lt is t m = In-flat_map parts L x t (subst (In L) (sym is) (In-get_or L i x lt)) m

@@ -132,7 +132,8 @@ fn written(alloc: Global, table: &Table, header: &Header) -> Result<Vec<u8>, Mem
 }
 
 /// The bytes of the store file of a document's triples: the set of them, so that neither their order
-/// counts nor how often one stands. Terms are compared once, to put them in order; the three lists
+/// counts nor how often one stands. Whether `short` holds is what `have_short_terms` tells. Terms are
+/// compared once, to put them in order; the three lists
 /// are sorted as numbers. Room for the whole file is taken at once, and each part is written to it
 /// once.
 pub fn image(alloc: Global, triples: &[Triple]) -> Result<Vec<u8>, Memory>
