@@ -106,10 +106,28 @@ module _ (L : List Triple) (terms : List Term) (ids : List IdTriple) (table : Is
       let predicates = padded (list_bytes (keys by_predicate)) in
       let objects = padded (list_bytes (keys by_object)) in
       let lists : length (subjects ++ (predicates ++ objects)) ≡ 4096 * (3 * list_blocks (length ids)) =
-      omega (arith, length-append subjects (predicates ++ objects), length-append predicates objects, length_padded (list_bytes (keys by_subject)),
-        length_padded (list_bytes (keys by_predicate)), length_padded (list_bytes (keys by_object)), long_keys by_subject, long_keys by_predicate, long_keys by_object) in
-      omega (arith, length-append head (places ++ (records ++ (subjects ++ (predicates ++ objects)))), length-append places (records ++ (subjects ++ (predicates ++ objects))),
-        length-append records (subjects ++ (predicates ++ objects)), lists, one_block h named, length_padded (place_bytes terms), length_padded (records_of terms), long_places)
+      omega (
+        arith,
+        length-append subjects (predicates ++ objects),
+        length-append predicates objects,
+        length_padded (list_bytes (keys by_subject)),
+        length_padded (list_bytes (keys by_predicate)),
+        length_padded (list_bytes (keys by_object)),
+        long_keys by_subject,
+        long_keys by_predicate,
+        long_keys by_object,
+      ) in
+      omega (
+        arith,
+        length-append head (places ++ (records ++ (subjects ++ (predicates ++ objects)))),
+        length-append places (records ++ (subjects ++ (predicates ++ objects))),
+        length-append records (subjects ++ (predicates ++ objects)),
+        lists,
+        one_block h named,
+        length_padded (place_bytes terms),
+        length_padded (records_of terms),
+        long_places,
+      )
 
   limits : IsWithin h h.blocks
   limits = record {

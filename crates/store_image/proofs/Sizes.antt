@@ -74,10 +74,14 @@ module _ (L : List Triple) (terms : List Term) (ids : List IdTriple) (table : Is
   pub three_each : length terms ≤ 3 * length ids
   three_each =
       let all = map (decode terms) ids in
-      omega (arith, length-mapped (decode terms) ids, length-parts all,
+      omega (
+        arith,
+        length-mapped (decode terms) ids,
+        length-parts all,
         distinct_fewer terms (flat_map parts all) (AreDistinct-ordered term_cmp terms_total terms table.rising)
-        (λ t i. let r = from_In-flat_map parts L t (table.to t i) in
-        In-flat_map parts all r.0 t (subst (λ l. In l r.0) (sym table.listing) ((listing_is by_subject L).is.same.from r.0 r.1)) r.2))
+            (λ t i. let r = from_In-flat_map parts L t (table.to t i) in
+            In-flat_map parts all r.0 t (subst (λ l. In l r.0) (sym table.listing) ((listing_is by_subject L).is.same.from r.0 r.1)) r.2),
+      )
 
 -- terms within the limit, with those of one more triple
 pub terms_more : (P : Term → Type 0) (L : List Triple) (i : ℕ) (x : Triple) → i < length L → x ≡ get_or L i x → ((t : Term) → In (parts x) t → P t)

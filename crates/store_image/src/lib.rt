@@ -5,6 +5,8 @@ mod building;
 mod header;
 mod law;
 mod limits;
+#[cfg(test)]
+mod tests;
 
 pub use building::image;
 pub use header::Header;
