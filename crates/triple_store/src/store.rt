@@ -18,8 +18,10 @@ ghost use Rattle.triple_table.specs.Keys.{order_of, key_of, keys_by};
 ghost use Rattle.store_image.specs.declared.header.Header.{Header as Headers};
 ghost use Rattle.store_image.specs.Header.{IsHeader, dict_of};
 ghost use Rattle.triple_store.specs.Stores.{View, IsOpened, IsKept, IsShown};
+ghost use Rattle.triple_store.specs.Entries.{ReadsEntry, triple_at};
 
-use btree_scan::Prefix;
+use crate::list::{key_in, list_of, named};
+use btree_scan::{Prefix, entry, lower_bound, range};
 use sage_outside::{Blocks, ReadFault, StoreFault};
 use std::alloc::Global;
 use std::marker::Model;
@@ -80,7 +82,10 @@ impl<B: Blocks> Store<B> {
             → IfErr result (λ u. u.fault ≡ OpenFault.NotAStore → (h : Headers) → IsHeader (block_at 0 image) (B.device blocks).count h → ⊥) }
         ensures failed { IfErr result (λ u. u.fault ≡ OpenFault.Blocks → Rose (B.device blocks).faults (B.device u.blocks).faults) }
     {
-        Err(Unopened { fault: OpenFault::Memory, blocks })
+        Err(Unopened {
+            fault: OpenFault::Memory,
+            blocks,
+        })
     }
 
     pub fn term(&mut self, alloc: Global, id: u32) -> Result<Term, StoreFault>
@@ -129,12 +134,14 @@ impl<B: Blocks> Store<B> {
         Err(ReadFault::Blocks)
     }
 
+    /// The name of the data, as the header tells it.
     pub fn data_id(&self) -> &[u8; 32]
         ensures { result.now ≡ self.now.header.data_id }
     {
         &self.header.data_id
     }
 
+    /// What the header tells, of format 0. Nothing is read.
     pub fn info(&self) -> Info
         ensures { result ≡ record { format = 0; terms = self.now.header.terms; triples = self.now.header.triples; longest = self.now.header.longest; blocks = self.now.header.blocks } }
     {
@@ -147,43 +154,72 @@ impl<B: Blocks> Store<B> {
         }
     }
 
+    /// How many triples of the data have keys below that key, in the order of that number: 0 by
+    /// subject, predicate and object, 1 by predicate, object and subject, 2 by object, subject and
+    /// predicate. The key is given as a triple.
+    ///
+    /// `Blocks` comes only where a read failed; `Damaged` never. At most 44 blocks are read.
+    #[tactic(auto, using(crate::proofs::Opened::list_lies))]
     pub fn lower_bound(&mut self, order: u8, key: &IdTriple) -> Result<u32, ReadFault>
         requires order { order ≤ 2 }
         ensures kept { IsKept self.old self.new }
+        ensures cost { HasRead self.old.device self.new.device 44 }
         ensures failed { result ≡ Err ReadFault.Blocks → Rose self.old.device.faults self.new.device.faults }
+        ensures within { IfOk result (λ n. n ≤ self.old.header.triples) }
         ensures found { (terms : List Terms) (ids : List Ids) → IsShown self.old terms ids
             → IfOk result (λ n. n ≡ count_by (λ k. is_lt (id_cmp k (key_of (order_of order) key.now))) (keys_by (order_of order) ids)) }
         ensures whole { (block : ℕ) → result ≡ Err (ReadFault.Damaged block) → ⊥ }
     {
-        Err(ReadFault::Blocks)
+        let list = list_of(&self.header, order);
+        lower_bound(&list, &mut self.blocks, &key_in(order, key))
     }
 
+    /// The first place of the triples whose keys in that order begin with the prefix, and the place
+    /// behind the last of them. Both are the same where there are none.
+    ///
+    /// `Blocks` comes only where a read failed; `Damaged` never. At most 88 blocks are read.
+    #[tactic(auto, using(crate::proofs::Opened::list_lies))]
     pub fn range(&mut self, order: u8, prefix: &Prefix) -> Result<(u32, u32), ReadFault>
         requires order { order ≤ 2 }
         requires len { prefix.now.len ≤ 3 }
         ensures kept { IsKept self.old self.new }
+        ensures cost { HasRead self.old.device self.new.device 88 }
         ensures failed { result ≡ Err ReadFault.Blocks → Rose self.old.device.faults self.new.device.faults }
+        ensures within { IfOk result (λ x. (x.0 ≤ x.1) × (x.1 ≤ self.old.header.triples)) }
         ensures found { (terms : List Terms) (ids : List Ids) → IsShown self.old terms ids
             → IfOk result (λ x. IsRange prefix.now (keys_by (order_of order) ids) x.0 x.1) }
         ensures whole { (block : ℕ) → result ≡ Err (ReadFault.Damaged block) → ⊥ }
     {
-        Err(ReadFault::Blocks)
+        let list = list_of(&self.header, order);
+        range(&list, &mut self.blocks, prefix)
     }
 
+    /// The triple at a place of that order, each term by its rank.
+    ///
+    /// `Blocks` comes only where a read failed. `Damaged` comes exactly where an id of the entry is
+    /// no term's, and names the block in which the first such id begins. At most two blocks are
+    /// read.
+    #[tactic(auto, using(crate::proofs::Opened::list_lies))]
     pub fn entry(&mut self, order: u8, place: u32) -> Result<IdTriple, ReadFault>
         requires order { order ≤ 2 }
         requires within { place < self.old.header.triples }
         ensures kept { IsKept self.old self.new }
+        ensures cost { HasRead self.old.device self.new.device 2 }
         ensures failed { result ≡ Err ReadFault.Blocks → Rose self.old.device.faults self.new.device.faults }
         ensures named { IfOk result (λ t. IsBelow self.old.header.terms t) }
+        ensures read { (image : List ℕ) → Tells self.old.device.image image
+            → ReadsEntry result (triple_at self.old.header order place image) }
         ensures found { (terms : List Terms) (ids : List Ids) → IsShown self.old terms ids
             → IfOk result (λ t. slice_get (keys_by (order_of order) ids) place ≡ Some (key_of (order_of order) t)) }
         ensures whole { (terms : List Terms) (ids : List Ids) (block : ℕ) → IsShown self.old terms ids
             → result ≡ Err (ReadFault.Damaged block) → ⊥ }
     {
-        Err(ReadFault::Blocks)
+        let list = list_of(&self.header, order);
+        let key = entry(&list, &mut self.blocks, place)?;
+        named(order, self.header.terms, &list, place, &key)
     }
 
+    /// The blocks, with the counts as they stand.
     pub fn close(self) -> B
         ensures { B.device result ≡ self.device }
     {
