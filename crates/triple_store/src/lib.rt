@@ -2,6 +2,8 @@
 #![tactic(auto)]
 
 mod list;
+mod range;
 mod store;
 
+pub use range::Range;
 pub use store::{Info, OpenFault, Store, Unopened};
