@@ -5,3 +5,4 @@ pub mod TableFound
 pub mod TableRanks
 pub mod SlotTies
 pub mod Keys
+pub mod Sets

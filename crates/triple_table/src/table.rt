@@ -154,6 +154,13 @@ impl<'a> Table<'a> {
         self.terms[id as usize]
     }
 
+    /// The terms in order, each once: the number of each is its place.
+    pub fn terms(&self) -> &[&'a Term]
+        ensures { map (λ t. t.now) result.now ≡ terms_in self.now }
+    {
+        self.terms.as_slice()
+    }
+
     /// How many terms there are.
     pub fn term_count(&self) -> usize
         ensures { result ≡ length (terms_in self.now) }
