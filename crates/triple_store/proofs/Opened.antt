@@ -1,10 +1,10 @@
 -- Where the areas of an opened store stand, and what its lists hold.
-use Rattle.std.proofs.Common.{◌≡◌, ℕ, zero, suc, ◌<◌, ◌≤◌, ◌+◌, ◌-◌, ◌*◌, ◌/◌, List, length, refl, sym, ap, subst, ◌∙◌, arith, get_or, map, inl, inr, Ok, Err, Some, true, false, Bool}
+use Rattle.std.proofs.Common.{◌≡◌, ℕ, zero, suc, ◌<◌, ◌≤◌, ◌+◌, ◌-◌, ◌*◌, ◌/◌, List, length, refl, sym, ap, subst, ◌∙◌, arith, get_or, map, inl, inr, Ok, Err, Some, None, Option, true, false, Bool}
 use Rattle.std.specs.Prelude.{slice_get, Result, IfOk, nat_le}
 use Rattle.std.specs.List.Sorted.{IsStrictlySortedBy}
 use Rattle.std.proofs.lemmas.Bool.Decides.{nat_tests}
 use Rattle.std.proofs.lemmas.Option.{get_or_from_slice_get, slice_get-get_or}
-use Rattle.sage_outside.specs.Blocks.{Tells}
+use Rattle.sage_outside.specs.Blocks.{Tells, HasBlock, block_at}
 use Rattle.sage_outside.specs.declared.fault.ReadFault.{ReadFault}
 use Rattle.sage_outside.specs.declared.fault.ReadFault.TheVariants as faults
 use Rattle.term_core.specs.declared.term.Term.{Term}
@@ -15,6 +15,8 @@ use Rattle.term_core.specs.Ids.{id_cmp}
 use Rattle.term_core.proofs.IdOrder.{ids_total}
 use Rattle.plan_tree.specs.Index.{Index, by_subject, by_predicate, by_object, in_order}
 use Rattle.plan_tree.proofs.Orders.{from_In-in_order}
+use Rattle.term_dict.specs.declared.dict.Dict.{Dict}
+use Rattle.term_dict.specs.Layout as dict
 use Rattle.btree_scan.specs.declared.tree.Tree.{Tree}
 use Rattle.btree_scan.specs.Entries.{Lies, Lists, entry_at}
 use Rattle.triple_table.specs.Table.{IsBelow, AreBelow}
@@ -22,7 +24,7 @@ use Rattle.triple_table.specs.Keys.{order_of, key_of, ids_of_key, keys_by}
 use Rattle.triple_table.proofs.Keys.{undone, redone}
 use Rattle.triple_table.proofs.TableLists.{In-get_or}
 use Rattle.store_image.specs.declared.header.Header.{Header}
-use Rattle.store_image.specs.Header.{tree_of, list_blocks, place_blocks, fixed_blocks}
+use Rattle.store_image.specs.Header.{dict_of, tree_of, list_blocks, place_blocks, fixed_blocks}
 use Rattle.store_image.specs.Holds.{Shows}
 use Rattle.triple_store.specs.Stores.{View, IsOpened, IsShown}
 use Rattle.triple_store.specs.Entries.{ReadsEntry, named_key, triple_at}
@@ -36,6 +38,14 @@ list_lies h count zero opened le = record { payload = inl refl; few = opened.few
 list_lies h count (suc zero) opened le = record { payload = inl refl; few = opened.few; within = omega (arith, opened.room, opened.counted) }
 list_lies h count (suc (suc zero)) opened le = record { payload = inl refl; few = opened.few; within = omega (arith, opened.room, opened.counted) }
 list_lies h count (suc (suc (suc n))) opened le = absurd (omega arith)
+
+-- the dictionary is within the blocks
+pub dict_lies : (h : Header) (count : ℕ) → IsOpened h count → dict.Lies (dict_of h) count
+dict_lies h count opened = record {
+  payload = inl refl;
+  places = omega (arith, opened.room, opened.counted);
+  records = omega (arith, opened.room, opened.counted);
+}
 
 -- the blocks of a store as they are seen tell what they tell
 pub told_here : (store seen : View) (terms : List Term) (ids : List IdTriple) (shown : IsShown store terms ids) → seen ≡ store → Tells seen.device.image shown.image
@@ -105,3 +115,17 @@ entry_whole r h ids order place image block is reads e =
     let f : triple_at h order place image ≡ Err block = subst (λ q. ReadsEntry q (triple_at h order place image)) e reads in
     let g = is.read in
     cc
+
+-- what blocks tell they tell as they are seen
+pub tells_here : (store seen : View) (image : List ℕ) → seen ≡ store → Tells store.device.image image → Tells seen.device.image image
+tells_here store seen image e told = subst (λ v. Tells v.device.image image) (sym e) told
+
+-- the dictionary as it is seen
+pub dict_here : (store seen : View) (d : Dict) → seen ≡ store → d ≡ dict_of seen.header → d ≡ dict_of store.header
+dict_here store seen d e is = is ∙ ap (λ v. dict_of v.header) e
+
+-- the block that was read
+pub block_read : {E : Type 0} (before : Option (List ℕ)) (image block : List ℕ) (r : Result (Unit {0}) E) (x : Unit {0}) → Tells before image → HasBlock before 0 block r → r ≡ Ok x → block ≡ block_at 0 image
+block_read None image block r x told has e = let f = told.told in cc
+block_read (Some bytes) image block (Ok y) x told has e = let f : Some bytes ≡ Some image = told.told in let g : bytes ≡ image = cc in has ∙ ap (block_at 0) g
+block_read (Some bytes) image block (Err fault) x told has e = cc

@@ -1,32 +1,14 @@
-// The list of an order: where it stands, and the triples that its entries spell.
+// The triples that the entries of an order's list spell.
 ghost use Rattle.std.specs.Prelude.{◌≡◌, ◌<◌, ◌≤◌, ◌+◌, ◌-◌, ◌*◌, ◌^◌, ℕ, Err, IfOk};
 ghost use Rattle.term_dict.specs.Areas.{block_of};
 ghost use Rattle.btree_scan.specs.Entries.{area_of};
 ghost use Rattle.triple_table.specs.Keys.{order_of, key_of, ids_of_key};
 ghost use Rattle.triple_table.specs.Table.{IsBelow};
-ghost use Rattle.store_image.specs.Header.{list_blocks, tree_of};
 ghost use Rattle.triple_store.specs.Entries.{named_key, ReadsEntry};
 
 use btree_scan::Tree;
 use sage_outside::ReadFault;
-use store_image::Header;
 use term_core::IdTriple;
-
-/// The list of an order.
-pub(crate) fn list_of(header: &Header, order: u8) -> Tree
-    requires order { order ≤ 2 }
-    requires few { header.now.triples ≤ 4194303 }
-    requires room { 3 * list_blocks header.now.triples ≤ header.now.blocks }
-    ensures { result ≡ tree_of header.now order }
-{
-    let length = (12 * header.triples + 4095) / 4096;
-    let lists = 3 - order as u32;
-    Tree {
-        first: header.blocks - lists * length,
-        entries: header.triples,
-        payload: 4096,
-    }
-}
 
 /// The ids of a triple, those first that the order compares first.
 #[tactic(auto, using(crate::proofs::Orders::third))]

@@ -1,5 +1,5 @@
 //! An opened store.
-ghost use Rattle.std.specs.Prelude.{◌≡◌, ◌<◌, ◌≤◌, ◌↔◌, ℕ, List, length, slice_get, count_by, Some, Contains, IsTrue, Ok, Err, IfOk, IfErr};
+ghost use Rattle.std.specs.Prelude.{◌≡◌, ◌<◌, ◌≤◌, ◌↔◌, ◌⊎◌, ◌+◌, ◌*◌, ◌/◌, ℕ, List, length, slice_get, count_by, Some, None, Contains, IsTrue, Ok, Err, IfOk, IfErr, MatchResult};
 ghost use Rattle.std.specs.FinMap as finmap;
 ghost use Rattle.std.specs.Ordering.{is_lt};
 ghost use Rattle.term_core.specs.declared.term.Term.{Term as Terms};
@@ -10,8 +10,8 @@ ghost use Rattle.sage_outside.specs.Causes.{Rose};
 ghost use Rattle.sage_outside.specs.Blocks.{HasRead, Tells, block_at};
 ghost use Rattle.sparql_tree.specs.Bgp.{pattern_of};
 ghost use Rattle.plan_tree.specs.Trace.{range as agreeing};
-ghost use Rattle.term_dict.specs.Layout.{Reads, term_at};
-ghost use Rattle.term_dict.specs.Ranks.{IsRank};
+ghost use Rattle.term_dict.specs.Layout.{Reads, term_at, longest_in};
+ghost use Rattle.term_dict.specs.Ranks.{IsRank, IsGap};
 ghost use Rattle.btree_scan.specs.Cuts.{IsRange};
 ghost use Rattle.triple_table.specs.Table.{IsTable, IsBelow};
 ghost use Rattle.triple_table.specs.Keys.{order_of, key_of, keys_by};
@@ -20,7 +20,7 @@ ghost use Rattle.store_image.specs.Header.{IsHeader, dict_of};
 ghost use Rattle.triple_store.specs.Stores.{View, IsOpened, IsKept, IsShown};
 ghost use Rattle.triple_store.specs.Entries.{ReadsEntry, triple_at};
 
-use crate::list::{key_in, list_of, named};
+use crate::list::{key_in, named};
 use btree_scan::{Prefix, entry, lower_bound, range};
 use sage_outside::{Blocks, ReadFault, StoreFault};
 use std::alloc::Global;
@@ -72,7 +72,46 @@ pub struct Info {
     pub blocks: u32,
 }
 
+/// The header that a first block of `count` blocks tells.
+fn header_in(block: &[u8; 4096], count: u32) -> Result<Header, OpenFault>
+    ensures { MatchResult result (IsHeader block.now count) (λ fault. (fault ≡ OpenFault.NotAStore) × ((h : Headers) → IsHeader block.now count h → ⊥)) }
+{
+    match Header::read(block, count) {
+        Some(header) => Ok(header),
+        None => Err(OpenFault::NotAStore),
+    }
+}
+
+/// The header of blocks.
+fn header_of<B: Blocks>(blocks: &mut B) -> Result<Header, OpenFault>
+    ensures read { HasRead (B.device blocks.old) (B.device blocks.new) 1 }
+    ensures opened { IfOk result (λ h. IsOpened h (B.device blocks.old).count) }
+    ensures header { (image : List ℕ) → Tells (B.device blocks.old).image image
+        → IfOk result (λ h. IsHeader (block_at 0 image) (B.device blocks.old).count h) }
+    ensures not_a_store { (image : List ℕ) → Tells (B.device blocks.old).image image
+        → result ≡ Err OpenFault.NotAStore → (h : Headers) → IsHeader (block_at 0 image) (B.device blocks.old).count h → ⊥ }
+    ensures failed { result ≡ Err OpenFault.Blocks → Rose (B.device blocks.old).faults (B.device blocks.new).faults }
+    ensures causes { IfErr result (λ fault. (fault ≡ OpenFault.NotAStore) ⊎ (fault ≡ OpenFault.Blocks)) }
+    ensures none { (B.device blocks.old).count ≡ 0
+        → (result ≡ Err OpenFault.NotAStore) × (B.device blocks.new ≡ B.device blocks.old) }
+{
+    let count = blocks.blocks();
+    if count == 0 {
+        return Err(OpenFault::NotAStore);
+    }
+    let mut block = [0; 4096];
+    match blocks.read_block(0, &mut block) {
+        Ok(()) => header_in(&block, count),
+        Err(_) => Err(OpenFault::Blocks),
+    }
+}
+
 impl<B: Blocks> Store<B> {
+    /// Opens the blocks as a store. The first block alone is read; where there is none, nothing is.
+    ///
+    /// `NotAStore` comes exactly where the first block is no header of a file of so many blocks,
+    /// also where there is no block at all. `Blocks` comes only where the read failed. `Damaged`
+    /// and `Memory` never come. The blocks are given back with each.
     pub fn open(blocks: B) -> Result<Store<B>, Unopened<B>>
         ensures opened { IfOk result (λ s. HasRead (B.device blocks) s.device 1) }
         ensures given_back { IfErr result (λ u. HasRead (B.device blocks) (B.device u.blocks) 1) }
@@ -81,16 +120,29 @@ impl<B: Blocks> Store<B> {
         ensures not_a_store { (image : List ℕ) → Tells (B.device blocks).image image
             → IfErr result (λ u. u.fault ≡ OpenFault.NotAStore → (h : Headers) → IsHeader (block_at 0 image) (B.device blocks).count h → ⊥) }
         ensures failed { IfErr result (λ u. u.fault ≡ OpenFault.Blocks → Rose (B.device blocks).faults (B.device u.blocks).faults) }
+        ensures causes { IfErr result (λ u. (u.fault ≡ OpenFault.NotAStore) ⊎ (u.fault ≡ OpenFault.Blocks)) }
+        ensures none { (B.device blocks).count ≡ 0
+            → MatchResult result (λ _. ⊥) (λ u. (u.fault ≡ OpenFault.NotAStore) × (B.device u.blocks ≡ B.device blocks)) }
     {
-        Err(Unopened {
-            fault: OpenFault::Memory,
-            blocks,
-        })
+        let mut blocks = blocks;
+        match header_of(&mut blocks) {
+            Ok(header) => Ok(Store { blocks, header }),
+            Err(fault) => Err(Unopened { fault, blocks }),
+        }
     }
 
+    /// The term of that rank. Memory is taken for its record and for the term.
+    ///
+    /// `Damaged` comes exactly where the two numbers of the record or the record are not well
+    /// formed, and names the block in which the broken one begins. `Blocks` comes only where a read
+    /// failed.
+    #[tactic(auto, using(crate::proofs::Opened::dict_lies))]
     pub fn term(&mut self, alloc: Global, id: u32) -> Result<Term, StoreFault>
         requires within { id < self.old.header.terms }
         ensures kept { IsKept self.old self.new }
+        ensures cost { HasRead self.old.device self.new.device (4 + (dict_of self.old.header).bytes / 4080) }
+        ensures few_reads { (image : List ℕ) → Tells self.old.device.image image
+            → self.new.device.reads ≤ self.old.device.reads + (4 + longest_in (dict_of self.old.header) image / 4080) }
         ensures failed { result ≡ Err StoreFault.Blocks → Rose self.old.device.faults self.new.device.faults }
         ensures read { (image : List ℕ) → Tells self.old.device.image image
             → Reads (λ t. t) result (term_at (dict_of self.old.header) id image) }
@@ -99,18 +151,37 @@ impl<B: Blocks> Store<B> {
         ensures whole { (terms : List Terms) (ids : List Ids) (block : ℕ) → IsShown self.old terms ids
             → result ≡ Err (StoreFault.Damaged block) → ⊥ }
     {
-        Err(StoreFault::Memory)
+        let dict = self.header.dict();
+        dict.term(alloc, &mut self.blocks, id)
     }
 
+    /// The rank of the term, or `None` where the data lack it. Memory is taken for one record and
+    /// one term at a time.
+    ///
+    /// `Damaged` names the block in which a broken number or record begins that the search came
+    /// upon. `Blocks` comes only where a read failed.
+    #[tactic(auto, using(crate::proofs::Opened::dict_lies))]
     pub fn id_of(&mut self, alloc: Global, t: &Term) -> Result<Option<u32>, StoreFault>
         ensures kept { IsKept self.old self.new }
+        ensures cost { HasRead self.old.device self.new.device (32 * (4 + (dict_of self.old.header).bytes / 4080)) }
+        ensures few_reads { (image : List ℕ) → Tells self.old.device.image image
+            → self.new.device.reads ≤ self.old.device.reads + 25 * (4 + longest_in (dict_of self.old.header) image / 4080) }
         ensures failed { result ≡ Err StoreFault.Blocks → Rose self.old.device.faults self.new.device.faults }
+        ensures there { (image : List ℕ) (k : ℕ) → Tells self.old.device.image image
+            → result ≡ Ok (Some k)
+            → (k < self.old.header.terms) × (term_at (dict_of self.old.header) k image ≡ Ok t.now) }
+        ensures absent { (image : List ℕ) → Tells self.old.device.image image
+            → result ≡ Ok None → IsGap (dict_of self.old.header) t.now image }
+        ensures damaged { (image : List ℕ) (block : ℕ) → Tells self.old.device.image image
+            → result ≡ Err (StoreFault.Damaged block)
+            → (k : ℕ) × (k < self.old.header.terms) × (term_at (dict_of self.old.header) k image ≡ Err block) }
         ensures found { (terms : List Terms) (ids : List Ids) → IsShown self.old terms ids
             → IfOk result (IsRank terms t.now) }
         ensures whole { (terms : List Terms) (ids : List Ids) (block : ℕ) → IsShown self.old terms ids
             → result ≡ Err (StoreFault.Damaged block) → ⊥ }
     {
-        Err(StoreFault::Memory)
+        let dict = self.header.dict();
+        dict.id_of(alloc, &mut self.blocks, t)
     }
 
     pub fn count(&mut self, alloc: Global, p: &Pattern) -> Result<u32, StoreFault>
@@ -170,7 +241,7 @@ impl<B: Blocks> Store<B> {
             → IfOk result (λ n. n ≡ count_by (λ k. is_lt (id_cmp k (key_of (order_of order) key.now))) (keys_by (order_of order) ids)) }
         ensures whole { (block : ℕ) → result ≡ Err (ReadFault.Damaged block) → ⊥ }
     {
-        let list = list_of(&self.header, order);
+        let list = self.header.tree(order);
         lower_bound(&list, &mut self.blocks, &key_in(order, key))
     }
 
@@ -190,7 +261,7 @@ impl<B: Blocks> Store<B> {
             → IfOk result (λ x. IsRange prefix.now (keys_by (order_of order) ids) x.0 x.1) }
         ensures whole { (block : ℕ) → result ≡ Err (ReadFault.Damaged block) → ⊥ }
     {
-        let list = list_of(&self.header, order);
+        let list = self.header.tree(order);
         range(&list, &mut self.blocks, prefix)
     }
 
@@ -214,7 +285,7 @@ impl<B: Blocks> Store<B> {
         ensures whole { (terms : List Terms) (ids : List Ids) (block : ℕ) → IsShown self.old terms ids
             → result ≡ Err (ReadFault.Damaged block) → ⊥ }
     {
-        let list = list_of(&self.header, order);
+        let list = self.header.tree(order);
         let key = entry(&list, &mut self.blocks, place)?;
         named(order, self.header.terms, &list, place, &key)
     }

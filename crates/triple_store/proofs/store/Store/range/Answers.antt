@@ -5,4 +5,4 @@ use Rattle.triple_store.proofs.store.Store.range.Goals as goal
 pub returns-clause-found : goal.returns-clause-found
 returns-clause-found g c = λ terms ids shown.
     c.range.ensures.found (keys_by (order_of c.args.order) ids) shown.image (told_here _ _ terms ids shown c.self.view_is)
-    (lists_here _ _ terms ids c.args.order _ shown c.self.view_is c.requires.order c.list_of-list.ensures)
+    (lists_here _ _ terms ids c.args.order _ shown c.self.view_is c.requires.order c.tree-list.ensures)
