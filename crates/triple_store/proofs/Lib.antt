@@ -1,2 +1,3 @@
 pub mod Orders
 pub mod Opened
+pub mod Fronts

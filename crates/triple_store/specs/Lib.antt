@@ -1,3 +1,4 @@
 pub mod Stores
 pub mod Entries
 pub mod Ranges
+pub mod Asked

@@ -74,7 +74,8 @@ pub struct Info {
 
 /// The header that a first block of `count` blocks tells.
 fn header_in(block: &[u8; 4096], count: u32) -> Result<Header, OpenFault>
-    ensures { MatchResult result (IsHeader block.now count) (λ fault. (fault ≡ OpenFault.NotAStore) × ((h : Headers) → IsHeader block.now count h → ⊥)) }
+    ensures is { IfOk result (λ h. IsHeader block.now count h) }
+    ensures not_a_store { IfErr result (λ fault. (fault ≡ OpenFault.NotAStore) × ((h : Headers) → IsHeader block.now count h → ⊥)) }
 {
     match Header::read(block, count) {
         Some(header) => Ok(header),
