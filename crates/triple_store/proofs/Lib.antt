@@ -1,3 +1,5 @@
 pub mod Orders
 pub mod Opened
 pub mod Fronts
+pub mod Stretches
+pub mod Places

@@ -2,3 +2,4 @@ pub mod Stores
 pub mod Entries
 pub mod Ranges
 pub mod Asked
+pub mod Stretches

@@ -13,7 +13,7 @@ ghost use Rattle.plan_tree.specs.Trace.{range as agreeing};
 ghost use Rattle.term_dict.specs.Layout.{Reads, term_at, longest_in};
 ghost use Rattle.term_dict.specs.Ranks.{IsRank, IsGap};
 ghost use Rattle.btree_scan.specs.Cuts.{IsRange};
-ghost use Rattle.triple_table.specs.Table.{IsTable, IsBelow};
+ghost use Rattle.triple_table.specs.Table.{IsTable, IsBelow, IsFound};
 ghost use Rattle.triple_table.specs.Keys.{order_of, key_of, keys_by};
 ghost use Rattle.store_image.specs.declared.header.Header.{Header as Headers};
 ghost use Rattle.store_image.specs.Header.{IsHeader, dict_of};
@@ -196,14 +196,19 @@ impl<B: Blocks> Store<B> {
         Err(StoreFault::Memory)
     }
 
+    /// Whether the data have that triple of ranks: a search in the list by subject. At most 46
+    /// blocks are read.
+    ///
+    /// `Blocks` comes only where a read failed; `Damaged` never.
     pub fn has(&mut self, t: &IdTriple) -> Result<bool, ReadFault>
         ensures kept { IsKept self.old self.new }
+        ensures cost { HasRead self.old.device self.new.device 46 }
         ensures failed { result ≡ Err ReadFault.Blocks → Rose self.old.device.faults self.new.device.faults }
         ensures found { (terms : List Terms) (ids : List Ids) → IsShown self.old terms ids
             → IfOk result (λ b. IsTrue b ↔ Contains ids t.now) }
         ensures whole { (block : ℕ) → result ≡ Err (ReadFault.Damaged block) → ⊥ }
     {
-        Err(ReadFault::Blocks)
+        Ok(self.place_in(0, t)?.is_some())
     }
 
     /// The name of the data, as the header tells it.
@@ -289,6 +294,44 @@ impl<B: Blocks> Store<B> {
         let list = self.header.tree(order);
         let key = entry(&list, &mut self.blocks, place)?;
         named(order, self.header.terms, &list, place, &key)
+    }
+
+    /// The key at a place of that order.
+    #[tactic(auto, using(crate::proofs::Opened::list_lies))]
+    fn key_at(&mut self, order: u8, place: u32) -> Result<IdTriple, ReadFault>
+        requires order { order ≤ 2 }
+        requires within { place < self.old.header.triples }
+        ensures kept { IsKept self.old self.new }
+        ensures cost { HasRead self.old.device self.new.device 2 }
+        ensures failed { result ≡ Err ReadFault.Blocks → Rose self.old.device.faults self.new.device.faults }
+        ensures found { (terms : List Terms) (ids : List Ids) → IsShown self.old terms ids
+            → IfOk result (λ key. slice_get (keys_by (order_of order) ids) place ≡ Some key) }
+        ensures whole { (block : ℕ) → result ≡ Err (ReadFault.Damaged block) → ⊥ }
+    {
+        let list = self.header.tree(order);
+        entry(&list, &mut self.blocks, place)
+    }
+
+    /// The place of the triple in an order's list, or `None` where it is not there.
+    pub(crate) fn place_in(&mut self, order: u8, t: &IdTriple) -> Result<Option<u32>, ReadFault>
+        requires order { order ≤ 2 }
+        ensures kept { IsKept self.old self.new }
+        ensures cost { HasRead self.old.device self.new.device 46 }
+        ensures failed { result ≡ Err ReadFault.Blocks → Rose self.old.device.faults self.new.device.faults }
+        ensures found { (terms : List Terms) (ids : List Ids) → IsShown self.old terms ids
+            → IfOk result (IsFound (keys_by (order_of order) ids) (key_of (order_of order) t.now)) }
+        ensures whole { (block : ℕ) → result ≡ Err (ReadFault.Damaged block) → ⊥ }
+    {
+        let place = self.lower_bound(order, t)?;
+        if place >= self.header.triples {
+            return Ok(None);
+        }
+        let key = self.key_at(order, place)?;
+        if key == key_in(order, t) {
+            Ok(Some(place))
+        } else {
+            Ok(None)
+        }
     }
 
     /// The blocks, with the counts as they stand.
