@@ -3,3 +3,4 @@ pub mod Opened
 pub mod Fronts
 pub mod Stretches
 pub mod Places
+pub mod Matches

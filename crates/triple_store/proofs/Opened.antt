@@ -7,6 +7,9 @@ use Rattle.std.proofs.lemmas.Option.{get_or_from_slice_get, slice_get-get_or}
 use Rattle.sage_outside.specs.Blocks.{Tells, HasBlock, block_at}
 use Rattle.sage_outside.specs.declared.fault.ReadFault.{ReadFault}
 use Rattle.sage_outside.specs.declared.fault.ReadFault.TheVariants as faults
+use Rattle.sage_outside.specs.declared.fault.StoreFault.{StoreFault}
+use Rattle.sage_outside.specs.declared.fault.StoreFault.TheVariants as store_faults
+use Rattle.std.specs.Result.{IsErr, IsErrAnd}
 use Rattle.term_core.specs.declared.term.Term.{Term}
 use Rattle.term_core.specs.declared.pattern.IdTriple.{IdTriple}
 use Rattle.term_core.specs.Bags.{In}
@@ -26,7 +29,7 @@ use Rattle.triple_table.proofs.TableLists.{In-get_or}
 use Rattle.store_image.specs.declared.header.Header.{Header}
 use Rattle.store_image.specs.Header.{dict_of, tree_of, list_blocks, place_blocks, fixed_blocks}
 use Rattle.store_image.specs.Holds.{Shows}
-use Rattle.triple_store.specs.Stores.{View, IsOpened, IsShown}
+use Rattle.triple_store.specs.Stores.{View, IsOpened, IsKept, IsShown}
 use Rattle.triple_store.specs.Entries.{ReadsEntry, named_key, triple_at}
 
 not_le : (a b : ℕ) → b < a → nat_le a b ≡ false
@@ -129,3 +132,44 @@ pub block_read : {E : Type 0} (before : Option (List ℕ)) (image block : List �
 block_read None image block r x told has e = let f = told.told in cc
 block_read (Some bytes) image block (Ok y) x told has e = let f : Some bytes ≡ Some image = told.told in let g : bytes ≡ image = cc in has ∙ ap (block_at 0) g
 block_read (Some bytes) image block (Err fault) x told has e = cc
+
+-- what is shown stays shown
+pub shown_kept : (before now : View) (terms : List Term) (ids : List IdTriple) → IsKept before now → IsShown before terms ids → IsShown now terms ids
+shown_kept before now terms ids kept shown = record {
+  image = shown.image;
+  told = record { told = kept.image ∙ shown.told.told };
+  shows = subst (λ h. Shows h terms ids shown.image) (sym kept.header) shown.shows;
+}
+
+-- the keys of an order are as many as the header tells, and in order
+pub key_count : (store now seen : View) (terms : List Term) (ids : List IdTriple) (order : ℕ) → IsShown store terms ids → order ≤ 2 → IsKept store now → seen ≡ now
+    → seen.header.triples ≡ length (keys_by (order_of order) ids)
+key_count store now seen terms ids order shown le kept e = ap (λ v. v.header.triples) e ∙ ap (λ h. h.triples) kept.header ∙ (shown.shows.lists order le).entries
+
+pub keys_rise : (store : View) (terms : List Term) (ids : List IdTriple) (order : ℕ) → IsShown store terms ids → order ≤ 2 → IsStrictlySortedBy id_cmp (keys_by (order_of order) ids)
+keys_rise store terms ids order shown le = (shown.shows.lists order le).sorted
+
+-- an entry that was read is the key of its place
+pub key_there : (r : Result IdTriple ReadFault) (tree : Tree) (es : List IdTriple) (place : ℕ) (image : List ℕ) → Lists tree es image → place < length es
+    → IfOk r (λ e. e ≡ entry_at tree place image) → IfOk r (λ key. slice_get es place ≡ Some key)
+key_there (Ok e) tree es place image lists lt is =
+    let at : slice_get es place ≡ Some (get_or es place record { s = 0; p = 0; o = 0 }) = slice_get-get_or es place _ lt in
+    at ∙ ap Some (sym (is ∙ lists.each place _ at))
+key_there (Err fault) tree es place image lists lt is = tt
+
+pub same_fault : {T : Type 0} (a b : StoreFault) → (let x : Result T StoreFault = Err a in x ≡ Err b) → a ≡ b
+same_fault a b e = cc
+
+-- what `?` hands on
+pub handed_on : {T : Type 0} (r : Result T StoreFault) (fault : StoreFault) (block : ℕ) → IsErr r × IsErrAnd r (λ y. y ≡ fault) → r ≡ Err (store_faults.Damaged block) → fault ≡ store_faults.Damaged block
+handed_on (Ok x) fault block h e = cc
+handed_on (Err y) fault block h e = let f : y ≡ fault = h.1 in cc
+
+pub kept_on : (a b c : View) → IsKept a b → IsKept b c → IsKept a c
+kept_on a b c f g = record {
+  header = g.header ∙ f.header;
+  image = g.image ∙ f.image;
+  count = g.count ∙ f.count;
+  later = omega (arith, f.later, g.later);
+  risen = omega (arith, f.risen, g.risen);
+}

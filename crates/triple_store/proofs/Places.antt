@@ -1,6 +1,8 @@
 -- Places of keys in a list in strict order.
 use Rattle.std.proofs.Common.{◌≡◌, ℕ, ◌+◌, ◌-◌, ◌<◌, ◌≤◌, List, length, get_or, map, refl, sym, ap, subst, ◌∙◌, ⊎_elim, arith, Option, Some, None, slice_get, count_by, Less, Equal, Greater, false, true}
-use Rattle.std.specs.Prelude.{option_map}
+use Rattle.std.specs.Prelude.{option_map, is_some, ◌↔◌, Contains, Bool, ◌==◌, ◌&&◌}
+use Rattle.std.proofs.lemmas.Bool.{eq-eqb}
+use Rattle.std.proofs.lemmas.Bool.Decides.{nat_tests}
 use Rattle.std.specs.List.Sorted.{IsStrictlySortedBy}
 use Rattle.std.specs.Ordering.{is_lt, ordering_reverse}
 use Rattle.std.proofs.lemmas.Cmp.{tied_itself}
@@ -9,14 +11,17 @@ use Rattle.term_core.specs.declared.pattern.IdTriple.{IdTriple}
 use Rattle.term_core.specs.Ids.{id_cmp}
 use Rattle.term_core.specs.Bags.{In}
 use Rattle.term_core.proofs.IdOrder.{ids_total}
-use Rattle.plan_tree.specs.Index.{Index}
+use Rattle.plan_tree.specs.Index.{Index, by_subject}
 use Rattle.plan_tree.proofs.Ranked.{In-slice_get, slice_get-In}
 use Rattle.btree_scan.proofs.Keys.{IsCut, counted}
 use Rattle.triple_table.specs.Table.{IsFound}
-use Rattle.triple_table.specs.Keys.{key_of, ids_of_key}
-use Rattle.triple_table.proofs.Keys.{undone, redone}
+use Rattle.triple_table.specs.Keys.{order_of, key_of, ids_of_key, keys_by}
+use Rattle.triple_table.proofs.Keys.{undone, redone, In-keys_by, from_In-keys_by}
 use Rattle.triple_table.proofs.TableFound.{missing, found, found-map}
-use Rattle.triple_table.proofs.TableLists.{rising_at, three}
+use Rattle.triple_table.proofs.TableLists.{In-from_Contains, Contains-from_In, rising_at, three}
+use Rattle.triple_store.specs.declared.range.Range.{Range}
+use Rattle.triple_store.specs.Ranges.{triples_at}
+use Rattle.triple_store.specs.Stretches.{keys_at}
 use Rattle.triple_store.proofs.Stretches.{stretch, get-stretch, from_In-stretch, rising-stretch}
 
 module _ (es : List IdTriple) (sorted : IsStrictlySortedBy id_cmp es) where
@@ -87,3 +92,56 @@ found_by_key x keys t place f = found-map (ids_of_key x) (key_of x) (redone x) (
 -- the triple of the key at a place
 pub triple_there : (x : Index) (keys : List IdTriple) (k : ℕ) (t : IdTriple) → slice_get keys k ≡ Some (key_of x t) → slice_get (map (ids_of_key x) keys) k ≡ Some t
 triple_there x keys k t at = slice_get-map (ids_of_key x) keys k ∙ ap (option_map (ids_of_key x)) at ∙ ap Some (undone x t)
+
+-- a place in a list as a place in a range of it
+pub place_there : (r : Range) (ids : List IdTriple) (t : IdTriple) (place : ℕ) (result : Option ℕ) → IsStrictlySortedBy id_cmp (keys_by (order_of r.order) ids) → r.first ≤ r.end
+    → IsFound (keys_by (order_of r.order) ids) (key_of (order_of r.order) t) (Some place)
+    → ((k : ℕ) → result ≡ Some k → (r.first + k ≡ place) × (place < r.end)) → (result ≡ None → r.first ≤ place → place < r.end → ⊥)
+    → IsFound (triples_at ids r) t result
+place_there r ids t place (Some k) sorted rises f at none =
+    let x = order_of r.order in
+    let here = at k refl in
+    found_by_key x (keys_at ids r) t (Some k) (found_within (keys_by x ids) sorted r.first (r.end - r.first) k place (key_of x t) f here.0 (omega (arith, here.1)))
+place_there r ids t place None sorted rises f at none =
+    let x = order_of r.order in
+    found_by_key x (keys_at ids r) t None (none_outside (keys_by x ids) sorted r.first (r.end - r.first) place (key_of x t) f (λ low high. none refl low (omega arith)))
+
+pub nowhere : (r : Range) (ids : List IdTriple) (t : IdTriple) → IsStrictlySortedBy id_cmp (keys_by (order_of r.order) ids) → IsFound (keys_by (order_of r.order) ids) (key_of (order_of r.order) t) None
+    → IsFound (triples_at ids r) t None
+nowhere r ids t sorted f =
+    let x = order_of r.order in
+    found_by_key x (keys_at ids r) t None (none_within (keys_by x ids) sorted r.first (r.end - r.first) (key_of x t) f)
+
+-- the triple at a place of a range
+pub triple_at_place : (r : Range) (ids : List IdTriple) (t : IdTriple) (place : ℕ) → place < r.end - r.first
+    → slice_get (keys_by (order_of r.order) ids) (r.first + place) ≡ Some (key_of (order_of r.order) t) → slice_get (triples_at ids r) place ≡ Some t
+triple_at_place r ids t place lt at =
+    triple_there (order_of r.order) (keys_at ids r) place t (get-stretch r.first (r.end - r.first) place (keys_by (order_of r.order) ids) lt ∙ at)
+
+-- a triple is among the data where its key is in the list by subject
+pub had : (ids : List IdTriple) (t : IdTriple) (r : Option ℕ) → IsFound (keys_by by_subject ids) t r → (is_some r ≡ true) ↔ Contains ids t
+had ids t (Some k) f = (λ e. Contains-from_In ids t (from_In-keys_by by_subject ids t (In-slice_get (keys_by by_subject ids) k t ((f.at k).0 refl))), λ m. refl)
+had ids t None f = (λ e. cc, λ m. absurd (f.none.0 refl (In-keys_by by_subject ids t (In-from_Contains ids t m))))
+
+-- keys of the same ids are the same
+all_true : (a b c : Bool) → (a && (b && c)) ≡ true → (a ≡ true) × ((b ≡ true) × (c ≡ true))
+all_true true true true e = (refl, (refl, refl))
+all_true true true false e = cc
+all_true true false c e = cc
+all_true false b c e = cc
+
+same_number : (j k : ℕ) → (j == k) ≡ true → j ≡ k
+same_number j k e = grind (arith, nat_tests)
+
+pub same_key : (a b : IdTriple) → (a.s == b.s && (a.p == b.p && a.o == b.o)) ≡ true → a ≡ b
+same_key a b e =
+    let t = all_true (a.s == b.s) (a.p == b.p) (a.o == b.o) e in
+    λ i. record { s = same_number a.s b.s t.0 i; p = same_number a.p b.p t.1.0 i; o = same_number a.o b.o t.1.1 i }
+
+key_itself : (a : IdTriple) → (a.s == a.s && (a.p == a.p && a.o == a.o)) ≡ true
+key_itself a = λ i. eq-eqb a.s a.s refl i && (eq-eqb a.p a.p refl i && eq-eqb a.o a.o refl i)
+
+pub other_key : (a b : IdTriple) → (a.s == b.s && (a.p == b.p && a.o == b.o)) ≡ false → a ≡ b → ⊥
+other_key a b e same =
+    let f : (a.s == b.s && (a.p == b.p && a.o == b.o)) ≡ true = subst (λ k. (a.s == k.s && (a.p == k.p && a.o == k.o)) ≡ true) same (key_itself a) in
+    cc
