@@ -1,12 +1,11 @@
 -- The keys of the triples that are asked for are those with a front.
-use Rattle.std.proofs.Common.{◌≡◌, ℕ, ◌+◌, ◌<◌, ◌≤◌, ◌↔◌, refl, sym, ap, subst, ◌∙◌, arith, Bool, true, false, Less, Equal, Greater}
+use Rattle.std.proofs.Common.{◌≡◌, ℕ, ◌↔◌, refl, sym, subst, arith, Bool, true, false, Equal}
 use Rattle.std.specs.Prelude.{◌==◌, ◌&&◌, IsTrue}
 use Rattle.std.specs.declared.cmp.Ordering.{Ordering}
 use Rattle.std.specs.Ordering.{nat_cmp, ordering_then}
 use Rattle.std.proofs.lemmas.Bool.Decides.{nat_tests}
 use Rattle.term_core.specs.declared.pattern.IdTriple.{IdTriple}
 use Rattle.term_core.specs.OrderLaws.{both_tie}
-use Rattle.btree_scan.specs.declared.prefix.Prefix.{Prefix}
 use Rattle.btree_scan.specs.Cuts.{front_cmp, HasPrefix}
 use Rattle.triple_table.specs.Keys.{ids_of_key}
 use Rattle.triple_store.specs.declared.asked.Wanted.{Wanted}
@@ -33,6 +32,7 @@ both r q s t f g = (
     first_true : (s t : Bool) → (s && t) ≡ true → s ≡ true
     first_true true t e = refl
     first_true false t e = cc
+
     second_true : (s t : Bool) → (s && t) ≡ true → t ≡ true
     second_true true t e = e
     second_true false t e = cc

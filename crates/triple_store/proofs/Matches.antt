@@ -30,11 +30,10 @@ use Rattle.btree_scan.specs.declared.prefix.Prefix.{Prefix}
 use Rattle.btree_scan.specs.Cuts.{HasPrefix, IsRange}
 use Rattle.triple_table.specs.Table.{term_at, decode, IsBelow, IsTable, IsFound}
 use Rattle.triple_table.specs.Keys.{order_of, key_of, ids_of_key, keys_by}
-use Rattle.triple_table.proofs.Keys.{undone, redone, In-keys_by, from_In-keys_by}
-use Rattle.triple_table.proofs.TableFound.{missing, found}
-use Rattle.triple_table.proofs.TableLists.{In-get_or, In-from_Contains, Contains-from_In, length-mapped, rising-map}
+use Rattle.triple_table.proofs.Keys.{undone, In-keys_by, from_In-keys_by}
+use Rattle.triple_table.proofs.TableFound.{found}
+use Rattle.triple_table.proofs.TableLists.{In-get_or, Contains-from_In, length-mapped, rising-map}
 use Rattle.triple_table.proofs.TableOrder.{same_order}
-use Rattle.triple_store.specs.declared.asked.Wanted.{Wanted}
 use Rattle.triple_store.specs.declared.asked.Asked.{Asked}
 use Rattle.triple_store.specs.declared.range.Range.{Range}
 use Rattle.triple_store.specs.Asked.{wanted_of, admits, takes, index_for}
@@ -110,13 +109,14 @@ stretch_from asked prefix ids order first end sorted rises within is asks index 
     let x = order_of order in
     let es = keys_by x ids in
     let asks_here : (key : IdTriple) → HasPrefix prefix key ↔ IsTrue (takes asked (ids_of_key x key)) =
-        λ key. subst (λ y. HasPrefix prefix key ↔ IsTrue (takes asked (ids_of_key y key))) (sym index) (asks key) in
+    λ key. subst (λ y. HasPrefix prefix key ↔ IsTrue (takes asked (ids_of_key y key))) (sym index) (asks key) in
     record {
       ordered = rising-stretch id_cmp first (end - first) es sorted;
       count = length-stretch first (end - first) es (omega arith);
-      to = λ key i. let w = from_In-stretch first (end - first) es key i in
-          (from_In-keys_by x ids key (In-slice_get es w.place key w.is),
-          (asks_here key).0 ((is.exactly w.place key w.is).1 (w.from, let b : w.place < first + (end - first) = w.before in omega arith)));
+      to = λ key i. let w = from_In-stretch first (end - first) es key i in (
+        from_In-keys_by x ids key (In-slice_get es w.place key w.is),
+        (asks_here key).0 ((is.exactly w.place key w.is).1 (w.from, let b : w.place < first + (end - first) = w.before in omega arith)),
+      );
       from = λ i m e. let key = key_of x i in
           let w = slice_get-In es key (In-keys_by x ids i m) in
           let has : HasPrefix prefix key = (asks_here key).1 (ap (takes asked) (undone x i) ∙ e) in
@@ -159,9 +159,10 @@ module _ (L : List Triple) (terms : List Term) (ids : List IdTriple) (p : Patter
         (rising-map id_cmp (triple_cmp x_of) triple_of (keys_at ids r) stretch.ordered
         (λ a b i j e. sym (key_order terms x_of a b table.rising (key_below a i) (key_below b j)) ∙ e));
     to = λ t i. let w = from_In-map triple_of (keys_at ids r) t i in
-        let c = stretch.to w.0 w.1 in
-        (subst (In L) w.2 (in_data (ids_of_key x_of w.0) c.0),
-        subst (λ u. agrees p finmap.empty u ≡ true) w.2 (sym (same (ids_of_key x_of w.0) (table.below (ids_of_key x_of w.0) c.0)) ∙ c.1));
+        let c = stretch.to w.0 w.1 in (
+          subst (In L) w.2 (in_data (ids_of_key x_of w.0) c.0),
+          subst (λ u. agrees p finmap.empty u ≡ true) w.2 (sym (same (ids_of_key x_of w.0) (table.below (ids_of_key x_of w.0) c.0)) ∙ c.1),
+        );
     from = λ t i e. let w = from_In-map (decode terms) ids t (subst (λ w. In w t) (sym table.listing) ((listing_is by_subject L).is.same.from t i)) in
         let m = stretch.from w.0 w.1 (same w.0 (table.below w.0 w.1) ∙ subst (λ u. agrees p finmap.empty u ≡ true) (sym w.2) e) in
         subst (In (map triple_of (keys_at ids r))) (ap (decode terms) (undone x_of w.0) ∙ w.2) (In-map triple_of (keys_at ids r) (key_of x_of w.0) m);
@@ -174,3 +175,7 @@ module _ (L : List Triple) (terms : List Term) (ids : List IdTriple) (p : Patter
     below = λ i m. let w = from_In-map (ids_of_key x_of) (keys_at ids r) i m in subst (IsBelow (length terms)) w.2 (key_below w.0 w.1);
     triples = twice terms x_of (keys_at ids r) ∙ listed;
   }
+
+-- so many triples agree
+pub counted : (L : List Triple) (terms : List Term) (ids : List IdTriple) (p : Pattern) (r : Range) → IsRangeOf L terms ids p r → r.end - r.first ≡ length (range L p finmap.empty)
+counted L terms ids p r is = sym is.count ∙ sym (length-mapped (decode terms) (triples_at ids r)) ∙ ap length is.triples

@@ -1,9 +1,9 @@
 -- Where the areas of an opened store stand, and what its lists hold.
-use Rattle.std.proofs.Common.{◌≡◌, ℕ, zero, suc, ◌<◌, ◌≤◌, ◌+◌, ◌-◌, ◌*◌, ◌/◌, List, length, refl, sym, ap, subst, ◌∙◌, arith, get_or, map, inl, inr, Ok, Err, Some, None, Option, true, false, Bool}
+use Rattle.std.proofs.Common.{◌≡◌, ℕ, zero, suc, ◌<◌, ◌≤◌, List, length, refl, sym, ap, subst, ◌∙◌, arith, get_or, map, inl, Ok, Err, Some, None, Option, false}
 use Rattle.std.specs.Prelude.{slice_get, Result, IfOk, nat_le}
 use Rattle.std.specs.List.Sorted.{IsStrictlySortedBy}
 use Rattle.std.proofs.lemmas.Bool.Decides.{nat_tests}
-use Rattle.std.proofs.lemmas.Option.{get_or_from_slice_get, slice_get-get_or}
+use Rattle.std.proofs.lemmas.Option.{slice_get-get_or}
 use Rattle.sage_outside.specs.Blocks.{Tells, HasBlock, block_at}
 use Rattle.sage_outside.specs.declared.fault.ReadFault.{ReadFault}
 use Rattle.sage_outside.specs.declared.fault.ReadFault.TheVariants as faults
@@ -16,7 +16,7 @@ use Rattle.term_core.specs.Bags.{In}
 use Rattle.term_core.proofs.Bags.{from_In-map}
 use Rattle.term_core.specs.Ids.{id_cmp}
 use Rattle.term_core.proofs.IdOrder.{ids_total}
-use Rattle.plan_tree.specs.Index.{Index, by_subject, by_predicate, by_object, in_order}
+use Rattle.plan_tree.specs.Index.{Index, by_subject, by_predicate, by_object}
 use Rattle.plan_tree.proofs.Orders.{from_In-in_order}
 use Rattle.term_dict.specs.declared.dict.Dict.{Dict}
 use Rattle.term_dict.specs.Layout as dict
@@ -27,9 +27,9 @@ use Rattle.triple_table.specs.Keys.{order_of, key_of, ids_of_key, keys_by}
 use Rattle.triple_table.proofs.Keys.{undone, redone}
 use Rattle.triple_table.proofs.TableLists.{In-get_or}
 use Rattle.store_image.specs.declared.header.Header.{Header}
-use Rattle.store_image.specs.Header.{dict_of, tree_of, list_blocks, place_blocks, fixed_blocks}
+use Rattle.store_image.specs.Header.{dict_of, tree_of}
 use Rattle.store_image.specs.Holds.{Shows}
-use Rattle.triple_store.specs.Stores.{View, IsOpened, IsKept, IsShown}
+use Rattle.triple_store.specs.Stores.{View, IsOpened, IsKept, IsShown, IsBroken}
 use Rattle.triple_store.specs.Entries.{ReadsEntry, named_key, triple_at}
 
 not_le : (a b : ℕ) → b < a → nat_le a b ≡ false
@@ -173,3 +173,9 @@ kept_on a b c f g = record {
   later = omega (arith, f.later, g.later);
   risen = omega (arith, f.risen, g.risen);
 }
+
+pub told_kept : (before now : View) (image : List ℕ) → IsKept before now → Tells before.device.image image → Tells now.device.image image
+told_kept before now image kept told = record { told = kept.image ∙ told.told }
+
+pub broken_before : (before now : View) (image : List ℕ) (block : ℕ) → IsKept before now → IsBroken now.header image block → IsBroken before.header image block
+broken_before before now image block kept broken = subst (λ h. IsBroken h image block) kept.header broken

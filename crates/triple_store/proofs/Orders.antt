@@ -1,5 +1,5 @@
 -- The three orders by their numbers.
-use Rattle.std.proofs.Common.{◌≡◌, ℕ, zero, suc, ◌<◌, ◌≤◌, ◌+◌, ◌-◌, ◌*◌, refl, arith}
+use Rattle.std.proofs.Common.{◌≡◌, ℕ, zero, suc, refl}
 use Rattle.plan_tree.specs.Index.{by_object}
 use Rattle.triple_table.specs.Keys.{order_of}
 

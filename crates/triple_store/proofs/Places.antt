@@ -1,5 +1,5 @@
 -- Places of keys in a list in strict order.
-use Rattle.std.proofs.Common.{◌≡◌, ℕ, ◌+◌, ◌-◌, ◌<◌, ◌≤◌, List, length, get_or, map, refl, sym, ap, subst, ◌∙◌, ⊎_elim, arith, Option, Some, None, slice_get, count_by, Less, Equal, Greater, false, true}
+use Rattle.std.proofs.Common.{◌≡◌, ℕ, ◌+◌, ◌-◌, ◌<◌, ◌≤◌, List, length, get_or, map, refl, sym, ap, subst, ◌∙◌, ⊎_elim, arith, Option, Some, None, slice_get, count_by, Less, false, true}
 use Rattle.std.specs.Prelude.{option_map, is_some, ◌↔◌, Contains, Bool, ◌==◌, ◌&&◌}
 use Rattle.std.proofs.lemmas.Bool.{eq-eqb}
 use Rattle.std.proofs.lemmas.Bool.Decides.{nat_tests}
@@ -9,11 +9,10 @@ use Rattle.std.proofs.lemmas.Cmp.{tied_itself}
 use Rattle.std.proofs.lemmas.Option.{slice_get_within, get_or_from_slice_get, slice_get-map}
 use Rattle.term_core.specs.declared.pattern.IdTriple.{IdTriple}
 use Rattle.term_core.specs.Ids.{id_cmp}
-use Rattle.term_core.specs.Bags.{In}
 use Rattle.term_core.proofs.IdOrder.{ids_total}
 use Rattle.plan_tree.specs.Index.{Index, by_subject}
 use Rattle.plan_tree.proofs.Ranked.{In-slice_get, slice_get-In}
-use Rattle.btree_scan.proofs.Keys.{IsCut, counted}
+use Rattle.btree_scan.proofs.Keys.{counted}
 use Rattle.triple_table.specs.Table.{IsFound}
 use Rattle.triple_table.specs.Keys.{order_of, key_of, ids_of_key, keys_by}
 use Rattle.triple_table.proofs.Keys.{undone, redone, In-keys_by, from_In-keys_by}

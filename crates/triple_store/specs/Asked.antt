@@ -1,5 +1,5 @@
 -- The ranks that a pattern asks for.
-use Rattle.std.specs.Prelude.{◌≡◌, ℕ, ◌+◌, ◌==◌, ◌&&◌, Bool, true, false, Option, Some, None, cond}
+use Rattle.std.specs.Prelude.{ℕ, ◌+◌, ◌==◌, ◌&&◌, Bool, true, false, Option, Some, None}
 use Rattle.term_core.specs.declared.pattern.IdTriple.{IdTriple}
 use Rattle.plan_tree.specs.Index.{Index, index_at}
 use Rattle.btree_scan.specs.declared.prefix.Prefix.{Prefix}

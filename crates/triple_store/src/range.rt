@@ -1,19 +1,22 @@
 //! The triples of a store that agree with the terms of a pattern.
-ghost use Rattle.std.specs.Prelude.{◌≡◌, ◌<◌, ◌≤◌, ◌+◌, ◌-◌, ℕ, List, Option, length, slice_get, Some, None, is_some, Ok, Err, IfOk};
+ghost use Rattle.std.specs.Prelude.{◌≡◌, ◌<◌, ◌≤◌, ◌+◌, ◌-◌, ◌*◌, ◌/◌, ℕ, List, Option, length, slice_get, Some, None, is_some, Ok, Err, IfOk};
 ghost use Rattle.std.specs.FinMap as finmap;
 ghost use Rattle.term_core.specs.declared.term.Term.{Term as Terms};
 ghost use Rattle.term_core.specs.declared.term.Triple.{Triple as Triples};
 ghost use Rattle.term_core.specs.declared.pattern.IdTriple.{IdTriple as Ids};
 ghost use Rattle.sage_outside.specs.Causes.{Rose};
-ghost use Rattle.sage_outside.specs.Blocks.{HasRead};
+ghost use Rattle.sage_outside.specs.Blocks.{HasRead, Tells};
 ghost use Rattle.sparql_tree.specs.Bgp.{pattern_of, position_of, filled};
 ghost use Rattle.plan_tree.specs.Index.{index_of};
-ghost use Rattle.plan_tree.specs.Trace.{fits, agrees};
+ghost use Rattle.plan_tree.specs.Trace.{range as agreeing, fits, agrees};
+ghost use Rattle.term_dict.specs.Layout.{Reads, longest_in};
+ghost use Rattle.store_image.specs.Header.{dict_of};
+ghost use Rattle.triple_store.specs.Entries.{triple_at};
 ghost use Rattle.triple_table.specs.Table.{IsTable, IsFound, IsBelow, term_at, decode};
 ghost use Rattle.triple_table.specs.Keys.{order_of};
 ghost use Rattle.triple_store.specs.Asked.{admits, is_bound, takes, index_for};
 ghost use Rattle.triple_store.specs.Stretches.{IsStretch};
-ghost use Rattle.triple_store.specs.Stores.{View, IsKept, IsShown};
+ghost use Rattle.triple_store.specs.Stores.{View, IsKept, IsShown, IsBroken};
 ghost use Rattle.triple_store.specs.Ranges.{IsWithin, IsRangeOf, triples_at};
 
 use crate::asked::{Asked, Wanted};
@@ -71,10 +74,15 @@ impl<B: Blocks> Store<B> {
     /// What a place of a pattern wants.
     fn wanted_at(&mut self, alloc: Global, place: &Place) -> Result<Wanted, StoreFault>
         ensures kept { IsKept self.old self.new }
+        ensures cost { HasRead self.old.device self.new.device (32 * (4 + (dict_of self.old.header).bytes / 4080)) }
+        ensures few_reads { (image : List ℕ) → Tells self.old.device.image image
+            → self.new.device.reads ≤ self.old.device.reads + (25 * (4 + longest_in (dict_of self.old.header) image / 4080)) }
         ensures failed { result ≡ Err StoreFault.Blocks → Rose self.old.device.faults self.new.device.faults }
         ensures bound { IfOk result (λ w. is_bound w ≡ is_some (filled finmap.empty (position_of place.now))) }
         ensures found { (terms : List Terms) (ids : List Ids) (k : ℕ) → IsShown self.old terms ids → k < length terms
             → IfOk result (λ w. admits w k ≡ fits (filled finmap.empty (position_of place.now)) (term_at terms k)) }
+        ensures damaged { (image : List ℕ) (block : ℕ) → Tells self.old.device.image image
+            → result ≡ Err (StoreFault.Damaged block) → IsBroken self.old.header image block }
         ensures whole { (terms : List Terms) (ids : List Ids) (block : ℕ) → IsShown self.old terms ids
             → result ≡ Err (StoreFault.Damaged block) → ⊥ }
     {
@@ -88,10 +96,15 @@ impl<B: Blocks> Store<B> {
     /// The ranks that a pattern wants.
     fn asked_of(&mut self, alloc: Global, p: &Pattern) -> Result<Asked, StoreFault>
         ensures kept { IsKept self.old self.new }
+        ensures cost { HasRead self.old.device self.new.device (96 * (4 + (dict_of self.old.header).bytes / 4080)) }
+        ensures few_reads { (image : List ℕ) → Tells self.old.device.image image
+            → self.new.device.reads ≤ self.old.device.reads + (75 * (4 + longest_in (dict_of self.old.header) image / 4080)) }
         ensures failed { result ≡ Err StoreFault.Blocks → Rose self.old.device.faults self.new.device.faults }
         ensures index { IfOk result (λ asked. index_for asked ≡ index_of (pattern_of p.now) finmap.empty) }
         ensures found { (terms : List Terms) (ids : List Ids) (i : Ids) → IsShown self.old terms ids → IsBelow (length terms) i
             → IfOk result (λ asked. takes asked i ≡ agrees (pattern_of p.now) finmap.empty (decode terms i)) }
+        ensures damaged { (image : List ℕ) (block : ℕ) → Tells self.old.device.image image
+            → result ≡ Err (StoreFault.Damaged block) → IsBroken self.old.header image block }
         ensures whole { (terms : List Terms) (ids : List Ids) (block : ℕ) → IsShown self.old terms ids
             → result ≡ Err (StoreFault.Damaged block) → ⊥ }
     {
@@ -139,9 +152,14 @@ impl<B: Blocks> Store<B> {
     pub fn range_of(&mut self, alloc: Global, p: &Pattern) -> Result<Range, StoreFault>
         ensures kept { IsKept self.old self.new }
         ensures within { IfOk result (IsWithin self.old) }
+        ensures cost { HasRead self.old.device self.new.device (96 * (4 + (dict_of self.old.header).bytes / 4080) + 88) }
+        ensures few_reads { (image : List ℕ) → Tells self.old.device.image image
+            → self.new.device.reads ≤ self.old.device.reads + (75 * (4 + longest_in (dict_of self.old.header) image / 4080) + 88) }
         ensures failed { result ≡ Err StoreFault.Blocks → Rose self.old.device.faults self.new.device.faults }
         ensures found { (L : List Triples) (terms : List Terms) (ids : List Ids) → IsTable L terms ids → IsShown self.old terms ids
             → IfOk result (IsRangeOf L terms ids (pattern_of p.now)) }
+        ensures damaged { (image : List ℕ) (block : ℕ) → Tells self.old.device.image image
+            → result ≡ Err (StoreFault.Damaged block) → IsBroken self.old.header image block }
         ensures whole { (terms : List Terms) (ids : List Ids) (block : ℕ) → IsShown self.old terms ids
             → result ≡ Err (StoreFault.Damaged block) → ⊥ }
     {
@@ -150,6 +168,28 @@ impl<B: Blocks> Store<B> {
             Ok(range) => Ok(range),
             Err(fault) => Err(store_fault(fault)),
         }
+    }
+
+    /// How many triples agree with the terms of a pattern: none where the data lack one of them.
+    /// Memory is taken while the ranks of the terms are looked for.
+    ///
+    /// `Damaged` and `Blocks` come as `range_of` has them.
+    pub fn count(&mut self, alloc: Global, p: &Pattern) -> Result<u32, StoreFault>
+        ensures kept { IsKept self.old self.new }
+        ensures cost { HasRead self.old.device self.new.device (96 * (4 + (dict_of self.old.header).bytes / 4080) + 88) }
+        ensures few_reads { (image : List ℕ) → Tells self.old.device.image image
+            → self.new.device.reads ≤ self.old.device.reads + (75 * (4 + longest_in (dict_of self.old.header) image / 4080) + 88) }
+        ensures within { IfOk result (λ n. n ≤ self.old.header.triples) }
+        ensures failed { result ≡ Err StoreFault.Blocks → Rose self.old.device.faults self.new.device.faults }
+        ensures found { (L : List Triples) (terms : List Terms) (ids : List Ids) → IsTable L terms ids → IsShown self.old terms ids
+            → IfOk result (λ n. n ≡ length (agreeing L (pattern_of p.now) finmap.empty)) }
+        ensures damaged { (image : List ℕ) (block : ℕ) → Tells self.old.device.image image
+            → result ≡ Err (StoreFault.Damaged block) → IsBroken self.old.header image block }
+        ensures whole { (terms : List Terms) (ids : List Ids) (block : ℕ) → IsShown self.old terms ids
+            → result ≡ Err (StoreFault.Damaged block) → ⊥ }
+    {
+        let range = self.range_of(alloc, p)?;
+        Ok(range.len())
     }
 
     /// The triple at a place of a range, counted from 0, each term by its rank. At most two blocks
@@ -164,6 +204,8 @@ impl<B: Blocks> Store<B> {
         ensures failed { result ≡ Err StoreFault.Blocks → Rose self.old.device.faults self.new.device.faults }
         ensures own { result ≡ Err StoreFault.Memory → ⊥ }
         ensures named { IfOk result (IsBelow self.old.header.terms) }
+        ensures read { (image : List ℕ) → Tells self.old.device.image image
+            → Reads (λ t. t) result (triple_at self.old.header range.now.order (range.now.first + place) image) }
         ensures found { (terms : List Terms) (ids : List Ids) → IsShown self.old terms ids
             → IfOk result (λ t. slice_get (triples_at ids range.now) place ≡ Some t) }
         ensures whole { (terms : List Terms) (ids : List Ids) (block : ℕ) → IsShown self.old terms ids

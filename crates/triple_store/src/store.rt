@@ -17,7 +17,7 @@ ghost use Rattle.triple_table.specs.Table.{IsTable, IsBelow, IsFound};
 ghost use Rattle.triple_table.specs.Keys.{order_of, key_of, keys_by};
 ghost use Rattle.store_image.specs.declared.header.Header.{Header as Headers};
 ghost use Rattle.store_image.specs.Header.{IsHeader, dict_of};
-ghost use Rattle.triple_store.specs.Stores.{View, IsOpened, IsKept, IsShown};
+ghost use Rattle.triple_store.specs.Stores.{View, IsOpened, IsKept, IsShown, IsBroken};
 ghost use Rattle.triple_store.specs.Entries.{ReadsEntry, triple_at};
 
 use crate::list::{key_in, named};
@@ -174,8 +174,7 @@ impl<B: Blocks> Store<B> {
         ensures absent { (image : List ℕ) → Tells self.old.device.image image
             → result ≡ Ok None → IsGap (dict_of self.old.header) t.now image }
         ensures damaged { (image : List ℕ) (block : ℕ) → Tells self.old.device.image image
-            → result ≡ Err (StoreFault.Damaged block)
-            → (k : ℕ) × (k < self.old.header.terms) × (term_at (dict_of self.old.header) k image ≡ Err block) }
+            → result ≡ Err (StoreFault.Damaged block) → IsBroken self.old.header image block }
         ensures found { (terms : List Terms) (ids : List Ids) → IsShown self.old terms ids
             → IfOk result (IsRank terms t.now) }
         ensures whole { (terms : List Terms) (ids : List Ids) (block : ℕ) → IsShown self.old terms ids
@@ -183,17 +182,6 @@ impl<B: Blocks> Store<B> {
     {
         let dict = self.header.dict();
         dict.id_of(alloc, &mut self.blocks, t)
-    }
-
-    pub fn count(&mut self, alloc: Global, p: &Pattern) -> Result<u32, StoreFault>
-        ensures kept { IsKept self.old self.new }
-        ensures failed { result ≡ Err StoreFault.Blocks → Rose self.old.device.faults self.new.device.faults }
-        ensures found { (L : List Triples) (terms : List Terms) (ids : List Ids) → IsTable L terms ids → IsShown self.old terms ids
-            → IfOk result (λ n. n ≡ length (agreeing L (pattern_of p.now) finmap.empty)) }
-        ensures whole { (terms : List Terms) (ids : List Ids) (block : ℕ) → IsShown self.old terms ids
-            → result ≡ Err (StoreFault.Damaged block) → ⊥ }
-    {
-        Err(StoreFault::Memory)
     }
 
     /// Whether the data have that triple of ranks: a search in the list by subject. At most 46

@@ -1,4 +1,4 @@
-use Rattle.std.proofs.Common.{arith, subst, sym, ap, ◌∙◌, ◌≡◌, Some, slice_get}
+use Rattle.std.proofs.Common.{arith, sym, ap, ◌∙◌, Some}
 use Rattle.triple_table.specs.Keys.{order_of, key_of, keys_by}
 use Rattle.triple_store.proofs.Opened.{shown_kept, key_count, keys_rise}
 use Rattle.triple_store.proofs.Places.{none_past, none_there, found_at, same_key, other_key}
