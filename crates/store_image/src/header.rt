@@ -28,14 +28,14 @@ pub struct Header {
 }
 
 /// The blocks of the numbers that tell where so many records begin, and where the last ends.
-fn place_blocks(terms: u32) -> u32
+pub(crate) fn place_blocks(terms: u32) -> u32
     ensures { result ≡ place_blocks terms }
 {
     ((8 * (terms as u64 + 1) + 4095) / 4096) as u32
 }
 
 /// The blocks of one list of so many entries.
-fn list_blocks(triples: u32) -> u32
+pub(crate) fn list_blocks(triples: u32) -> u32
     ensures { result ≡ list_blocks triples }
 {
     ((12 * triples as u64 + 4095) / 4096) as u32

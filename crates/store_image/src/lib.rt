@@ -3,6 +3,12 @@
 
 mod building;
 mod header;
+mod law;
+mod limits;
+#[cfg(test)]
+mod tests;
 
 pub use building::image;
 pub use header::Header;
+pub use law::equal_sets_give_equal_images;
+pub use limits::have_short_terms;

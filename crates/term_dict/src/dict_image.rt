@@ -159,6 +159,18 @@ pub fn are_short(terms: &[Term]) -> bool
     true
 }
 
+/// The same of terms that are lent.
+pub fn lent_are_short(terms: &[&Term]) -> bool
+    ensures { IsTrue result ↔ AreShort (map (λ t. t.now) terms.now) }
+{
+    for t in terms {
+        if size(t) > 262144 {
+            return false;
+        }
+    }
+    true
+}
+
 /// The places and records of the terms, in the order in which they stand. Where that is the order
 /// of terms, each has its rank. The time is linear in the bytes of the terms.
 pub fn build(alloc: Global, terms: Items<Term>) -> Result<DictImage, Memory>

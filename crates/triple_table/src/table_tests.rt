@@ -1,4 +1,4 @@
-use crate::{Table, data_id};
+use crate::{Table, data_id, keys_by};
 use std::alloc::Global;
 use std::test::Fail;
 use term_core::{IdTriple, Term, Text, TextFault, Triple};
@@ -51,6 +51,24 @@ fn numbers_terms(rt: HostRuntime) -> Result<(), Fail> {
     Ok(())
 }
 
+// Keys by predicate, object and subject, and by object, subject and predicate.
+#[test]
+fn lists_keys(rt: HostRuntime) -> Result<(), Fail> {
+    let document = document(rt.alloc())?;
+    let table = Table::build(rt.alloc(), document.as_slice())?;
+    let predicates = keys_by(rt.alloc(), table.triples(), 1)?;
+    assert_eq!(rt;
+        predicates.as_slice(),
+        [ids(2, 0, 1), ids(2, 1, 0), ids(3, 1, 0)].as_slice()
+    );
+    let objects = keys_by(rt.alloc(), table.triples(), 2)?;
+    assert_eq!(rt;
+        objects.as_slice(),
+        [ids(0, 1, 2), ids(1, 0, 2), ids(1, 0, 3)].as_slice()
+    );
+    Ok(())
+}
+
 #[test]
 fn finds_terms(rt: HostRuntime) -> Result<(), Fail> {
     let document = document(rt.alloc())?;
@@ -60,6 +78,7 @@ fn finds_terms(rt: HostRuntime) -> Result<(), Fail> {
     let count = table.term_count();
     assert!(rt; count == 4);
     assert!(rt; *table.term(1) == b);
+    assert_eq!(rt; table.terms().len(), 4);
     Ok(())
 }
 

@@ -1,4 +1,4 @@
-use Rattle.std.proofs.Common.{◌≡◌, ◌≤◌, length, map, max, refl, arith}
+use Rattle.std.proofs.Common.{◌≡◌, length, map, max, refl, arith}
 use Rattle.std.proofs.lemmas.Grind.{common_steps}
 use Rattle.term_dict.specs.Records.{record_of}
 use Rattle.term_dict.proofs.Steps.{mapped_within, mapped_read, mapped_at, record_short, bytes_more, longest_more}
