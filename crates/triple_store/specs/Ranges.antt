@@ -1,5 +1,5 @@
 -- The triples that agree with the terms of a pattern: a stretch of one of the three lists.
-use Rattle.std.specs.Prelude.{◌≡◌, ℕ, ◌-◌, ◌≤◌, List, length, map, take, drop}
+use Rattle.std.specs.Prelude.{◌≡◌, ◌-◌, ◌≤◌, List, length, map, take, drop}
 use Rattle.std.specs.FinMap as finmap
 use Rattle.term_core.specs.declared.term.Term.{Term}
 use Rattle.term_core.specs.declared.term.Triple.{Triple}

@@ -1,10 +1,11 @@
 -- An opened store: the header that was read, and its blocks.
-use Rattle.std.specs.Prelude.{◌≡◌, ℕ, ◌*◌, ◌^◌, ◌<◌, ◌≤◌, List}
+use Rattle.std.specs.Prelude.{◌≡◌, ℕ, ◌*◌, ◌^◌, ◌<◌, ◌≤◌, List, Err}
 use Rattle.term_core.specs.declared.term.Term.{Term}
 use Rattle.term_core.specs.declared.pattern.IdTriple.{IdTriple}
 use Rattle.sage_outside.specs.Blocks.{Device, Tells}
+use Rattle.term_dict.specs.Layout.{term_at}
 use Rattle.store_image.specs.declared.header.Header.{Header}
-use Rattle.store_image.specs.Header.{fixed_blocks}
+use Rattle.store_image.specs.Header.{fixed_blocks, dict_of}
 use Rattle.store_image.specs.Holds.{Shows}
 
 -- what is seen of an opened store
@@ -34,3 +35,9 @@ pub record IsShown (store : View) (terms : List Term) (ids : List IdTriple) : Ty
   pub image : List ℕ
   pub told : Tells store.device.image image
   pub shows : Shows store.header terms ids image
+
+-- a number or a record of the dictionary that begins in that block is not well formed
+pub record IsBroken (h : Header) (image : List ℕ) (block : ℕ) : Type 0 where
+  pub id : ℕ
+  pub within : id < h.terms
+  pub read : term_at (dict_of h) id image ≡ Err block

@@ -1,6 +1,8 @@
 //! The set of triples behind a store file: terms by their ranks, and triples in three orders.
 #![tactic(auto)]
 
+mod asked;
+mod list;
 mod range;
 mod store;
 
