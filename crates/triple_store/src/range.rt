@@ -1,5 +1,5 @@
 //! The triples of a store that agree with the terms of a pattern.
-ghost use Rattle.std.specs.Prelude.{◌≡◌, ◌<◌, ◌≤◌, ◌-◌, ℕ, List, Option, slice_get, Some, Ok, Err, IfOk, IfErr};
+ghost use Rattle.std.specs.Prelude.{◌≡◌, ◌<◌, ◌≤◌, ◌-◌, ◌^◌, ℕ, List, Option, slice_get, Some, Ok, Err, IfOk, IfErr};
 ghost use Rattle.term_core.specs.declared.term.Term.{Term as Terms};
 ghost use Rattle.term_core.specs.declared.term.Triple.{Triple as Triples};
 ghost use Rattle.term_core.specs.declared.pattern.IdTriple.{IdTriple as Ids};
@@ -27,7 +27,8 @@ impl Range {
     /// How many triples there are.
     pub fn len(&self) -> u32
         requires { self.now.first ≤ self.now.end }
-        ensures { result ≡ self.now.end - self.now.first }
+        ensures count { result ≡ self.now.end - self.now.first }
+        ensures few { result < 2 ^ 32 }
     {
         self.end - self.first
     }

@@ -119,16 +119,6 @@ impl<B: Blocks> Store<B> {
         Err(StoreFault::Memory)
     }
 
-    pub fn has(&mut self, t: &IdTriple) -> Result<bool, ReadFault>
-        ensures kept { IsKept self.old self.new }
-        ensures failed { result ≡ Err ReadFault.Blocks → Rose self.old.device.faults self.new.device.faults }
-        ensures found { (terms : List Terms) (ids : List Ids) → IsShown self.old terms ids
-            → IfOk result (λ b. IsTrue b ↔ Contains ids t.now) }
-        ensures whole { (block : ℕ) → result ≡ Err (ReadFault.Damaged block) → ⊥ }
-    {
-        Err(ReadFault::Blocks)
-    }
-
     pub fn data_id(&self) -> &[u8; 32]
         ensures { result.now ≡ self.now.header.data_id }
     {
@@ -145,43 +135,6 @@ impl<B: Blocks> Store<B> {
             longest: self.header.longest,
             blocks: self.header.blocks,
         }
-    }
-
-    pub fn lower_bound(&mut self, order: u8, key: &IdTriple) -> Result<u32, ReadFault>
-        requires order { order ≤ 2 }
-        ensures kept { IsKept self.old self.new }
-        ensures failed { result ≡ Err ReadFault.Blocks → Rose self.old.device.faults self.new.device.faults }
-        ensures found { (terms : List Terms) (ids : List Ids) → IsShown self.old terms ids
-            → IfOk result (λ n. n ≡ count_by (λ k. is_lt (id_cmp k (key_of (order_of order) key.now))) (keys_by (order_of order) ids)) }
-        ensures whole { (block : ℕ) → result ≡ Err (ReadFault.Damaged block) → ⊥ }
-    {
-        Err(ReadFault::Blocks)
-    }
-
-    pub fn range(&mut self, order: u8, prefix: &Prefix) -> Result<(u32, u32), ReadFault>
-        requires order { order ≤ 2 }
-        requires len { prefix.now.len ≤ 3 }
-        ensures kept { IsKept self.old self.new }
-        ensures failed { result ≡ Err ReadFault.Blocks → Rose self.old.device.faults self.new.device.faults }
-        ensures found { (terms : List Terms) (ids : List Ids) → IsShown self.old terms ids
-            → IfOk result (λ x. IsRange prefix.now (keys_by (order_of order) ids) x.0 x.1) }
-        ensures whole { (block : ℕ) → result ≡ Err (ReadFault.Damaged block) → ⊥ }
-    {
-        Err(ReadFault::Blocks)
-    }
-
-    pub fn entry(&mut self, order: u8, place: u32) -> Result<IdTriple, ReadFault>
-        requires order { order ≤ 2 }
-        requires within { place < self.old.header.triples }
-        ensures kept { IsKept self.old self.new }
-        ensures failed { result ≡ Err ReadFault.Blocks → Rose self.old.device.faults self.new.device.faults }
-        ensures named { IfOk result (λ t. IsBelow self.old.header.terms t) }
-        ensures found { (terms : List Terms) (ids : List Ids) → IsShown self.old terms ids
-            → IfOk result (λ t. slice_get (keys_by (order_of order) ids) place ≡ Some (key_of (order_of order) t)) }
-        ensures whole { (terms : List Terms) (ids : List Ids) (block : ℕ) → IsShown self.old terms ids
-            → result ≡ Err (ReadFault.Damaged block) → ⊥ }
-    {
-        Err(ReadFault::Blocks)
     }
 
     pub fn close(self) -> B
