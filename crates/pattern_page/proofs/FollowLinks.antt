@@ -1,6 +1,6 @@
 -- Pages one after the other.
-use Rattle.std.proofs.Common.{◌≡◌, ℕ, ◌+◌, ◌<◌, ◌≤◌, List, [], ◌∷◌, length, Option, Some, None, Result, Ok, Err, refl, sym, subst, arith}
-use Rattle.std.proofs.lemmas.List.{length-map}
+use Rattle.std.proofs.Common.{◌≡◌, ℕ, ◌+◌, ◌<◌, ◌≤◌, List, [], ◌∷◌, length, Bool, Option, Some, None, Result, Ok, Err, refl, sym, subst, arith}
+use Rattle.std.specs.Result.{IsErr, IsErrAnd}
 use Rattle.term_core.specs.declared.term.Triple.{Triple}
 use Rattle.term_core.specs.declared.pattern.Pattern.{Pattern}
 use Rattle.term_core.specs.Order.{term_cmp}
@@ -22,7 +22,8 @@ use Rattle.pattern_page.specs.declared.follow.Walk.{Walk}
 use Rattle.pattern_page.specs.declared.page.PageFault.{PageFault}
 use Rattle.pattern_page.specs.declared.page.PageFault.TheVariants as faults
 use Rattle.term_core.specs.Mappings.{Name}
-use Rattle.pattern_page.specs.Followed.{Begins, IsTurned, IsGiven}
+use Rattle.pattern_page.specs.declared.follow.Counts.{Counts}
+use Rattle.pattern_page.specs.Followed.{Begins, IsTurned, IsGiven, AreFollowed}
 use Rattle.pattern_page.proofs.PageLinks.{terms_alike, steps_are}
 
 total_ones : {X : Type 0} (xs : List X) → total (λ _. 1) xs ≡ length xs
@@ -69,8 +70,27 @@ module _ (D : List Triple) (pattern : Pattern) (part : Seen) (h : IsOf D pattern
   turned_all n quantum next (Err (faults.Store fault)) b a = tt
   turned_all n quantum next (Err faults.Memory) b a = tt
 
-pub given_err : (D : List Triple) (pattern : Pattern) (n quantum : ℕ) (names : List Name) (old new : Walk) (before after : List ℕ) (e : PageFault)
+given_err : (D : List Triple) (pattern : Pattern) (n quantum : ℕ) (names : List Name) (old new : Walk) (before after : List ℕ) (e : PageFault)
     → IsTurned D pattern n quantum (Err e) → IsGiven D pattern quantum names old new before after (Err e)
 given_err D pattern n quantum names old new before after faults.Plan t = t
 given_err D pattern n quantum names old new before after (faults.Store fault) t = tt
 given_err D pattern n quantum names old new before after faults.Memory t = tt
+
+-- a refusal that `?` passes on
+pub given_passed : (D : List Triple) (pattern : Pattern) (n quantum : ℕ) (names : List Name) (old new : Walk) (before after : List ℕ) (r : Result Bool PageFault) (e : PageFault)
+    → IsErr r × IsErrAnd r (λ x. x ≡ e) → IsTurned D pattern n quantum (Err e) → IsGiven D pattern quantum names old new before after r
+given_passed D pattern n quantum names old new before after (Ok more) e h t = cc
+given_passed D pattern n quantum names old new before after (Err x) e h t =
+    given_err D pattern n quantum names old new before after x (subst (λ y. IsTurned D pattern n quantum (Err y)) (sym h.1) t)
+
+followed_err : (D : List Triple) (pattern : Pattern) (quantum : ℕ) (quanta : List ℕ) (names : List Name) (old new : Walk) (first before after : List ℕ) (e : PageFault)
+    → IsGiven D pattern quantum names old new before after (Err e) → AreFollowed D pattern quanta names first after (Err e)
+followed_err D pattern quantum quanta names old new first before after faults.Plan t = t
+followed_err D pattern quantum quanta names old new first before after (faults.Store fault) t = tt
+followed_err D pattern quantum quanta names old new first before after faults.Memory t = tt
+
+pub followed_passed : (D : List Triple) (pattern : Pattern) (quantum : ℕ) (quanta : List ℕ) (names : List Name) (old new : Walk) (first before after : List ℕ) (r : Result Counts PageFault)
+    (e : PageFault) → IsErr r × IsErrAnd r (λ x. x ≡ e) → IsGiven D pattern quantum names old new before after (Err e) → AreFollowed D pattern quanta names first after r
+followed_passed D pattern quantum quanta names old new first before after (Ok counts) e h t = cc
+followed_passed D pattern quantum quanta names old new first before after (Err x) e h t =
+    followed_err D pattern quantum quanta names old new first before after x (subst (λ y. IsGiven D pattern quantum names old new before after (Err y)) (sym h.1) t)

@@ -98,3 +98,8 @@ pub refused_same : {T : Type 0} (r : Result T StoreFault) (fault : StoreFault) (
     → IfErr r (λ e. IsRefusal (faults.Store e) a b)
 refused_same (Ok x) fault a b h f d = tt
 refused_same (Err e) fault a b h f d = subst (λ w. IsRefusal (faults.Store w) a b) (sym h.1) (store_refusal fault a b f d)
+
+pub may_passed : {T : Type 0} (r : Result T PageFault) (fault : PageFault) (a b c : View) → IsErr r × IsErrAnd r (λ e. e ≡ fault)
+    → IsKept a b → MayRefuse fault b c → IfErr r (λ e. MayRefuse e a c)
+may_passed (Ok x) fault a b c h k r = tt
+may_passed (Err e) fault a b c h k r = subst (λ w. MayRefuse w a c) (sym h.1) (may_later fault a b c k r)
