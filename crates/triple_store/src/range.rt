@@ -1,5 +1,5 @@
 //! The triples of a store that agree with the terms of a pattern.
-ghost use Rattle.std.specs.Prelude.{◌≡◌, ◌<◌, ◌≤◌, ◌+◌, ◌-◌, ◌*◌, ◌/◌, ℕ, List, Option, length, slice_get, Some, None, is_some, Ok, Err, IfOk};
+ghost use Rattle.std.specs.Prelude.{◌^◌, ◌≡◌, ◌<◌, ◌≤◌, ◌+◌, ◌-◌, ◌*◌, ◌/◌, ℕ, List, Option, length, slice_get, Some, None, is_some, Ok, Err, IfOk};
 ghost use Rattle.std.specs.FinMap as finmap;
 ghost use Rattle.term_core.specs.declared.term.Term.{Term as Terms};
 ghost use Rattle.term_core.specs.declared.term.Triple.{Triple as Triples};
@@ -50,7 +50,8 @@ impl Range {
     /// How many triples there are.
     pub fn len(&self) -> u32
         requires { self.now.first ≤ self.now.end }
-        ensures { result ≡ self.now.end - self.now.first }
+        ensures count { result ≡ self.now.end - self.now.first }
+        ensures few { result < 2 ^ 32 }
     {
         self.end - self.first
     }
