@@ -2,3 +2,5 @@ pub mod Assignments
 pub mod Full
 pub mod Visible
 pub mod Data
+pub mod ExprViews
+pub mod GroupViews

@@ -1,10 +1,18 @@
 //! The algebra of SPARQL 1.1 and what its solutions in a data set are: definitions, and laws over them.
 #![tactic(auto)]
 
+mod expr;
 mod fault;
+mod group;
 mod law;
+mod query;
+#[cfg(test)]
+mod tests;
 mod words;
 
+pub use expr::{Expr, Factor, Signed};
 pub use fault::{QueryFault, Size};
+pub use group::{Element, Group};
 pub use law::{any_order, data_as_set, names_are_apart, one_pattern, solutions_are_exact};
+pub use query::{GroupKey, OrderKey, Query, SelectItem};
 pub use words::{AggregateKind, CompareOp, Function};
