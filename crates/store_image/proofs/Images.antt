@@ -178,6 +178,7 @@ module _ (L : List Triple) (terms : List Term) (ids : List IdTriple) (table : Is
     terms = terms;
     ids = ids;
     table = table;
+    few = few_blocks;
     whole = whole;
     is_header = is_header;
     term_count = refl;

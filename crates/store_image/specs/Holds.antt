@@ -1,5 +1,5 @@
 -- What a store file holds: the set of triples that it was made of.
-use Rattle.std.specs.Prelude.{◌≡◌, ℕ, ◌*◌, ◌≤◌, List, length}
+use Rattle.std.specs.Prelude.{◌≡◌, ℕ, ◌*◌, ◌^◌, ◌<◌, ◌≤◌, List, length}
 use Rattle.term_core.specs.declared.term.Term.{Term}
 use Rattle.term_core.specs.declared.term.Triple.{Triple}
 use Rattle.term_core.specs.declared.pattern.IdTriple.{IdTriple}
@@ -26,6 +26,7 @@ pub record Holds (L : List Triple) (image : List ℕ) : Type 0 where
   pub terms : List Term
   pub ids : List IdTriple
   pub table : IsTable L terms ids
+  pub few : header.blocks < 2 ^ 32
   pub whole : length image ≡ 4096 * header.blocks
   pub is_header : IsHeader (block_at 0 image) header.blocks header
   pub term_count : header.terms ≡ length terms

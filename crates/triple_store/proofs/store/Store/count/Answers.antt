@@ -9,4 +9,4 @@ returns-in_err-range-clause-whole g c = λ terms ids block shown e. c.in_err-ran
 
 pub returns-clause-found : goal.returns-clause-found
 returns-clause-found g c = λ L terms ids table shown.
-    c.len.ensures ∙ counted L terms ids (pattern_of c.args.p.now) c.in_ok-range.range (c.in_ok-range.ensures.found L terms ids table shown)
+    c.len.ensures.count ∙ counted L terms ids (pattern_of c.args.p.now) c.in_ok-range.range (c.in_ok-range.ensures.found L terms ids table shown)
