@@ -114,26 +114,22 @@ fn memory_of(fault: PageFault) -> Memory
     }
 }
 
-/// The answer over an opened store in memory, which cannot fail.
-fn answer_opened(
+/// The answer over an opened store, and the blocks, which it gives back whatever came.
+fn answer_opened<B: Blocks>(
     alloc: Global,
-    store: Store<NeverBlocks<'_>>,
+    store: Store<B>,
     select: &SelectQuery,
     quanta: &[u32],
-) -> Result<Answer, Memory>
-    requires held { (L : List Triples) × IsStoreOf L store }
+) -> (Result<Answer, PageFault>, B)
     requires some { AreQuanta quanta.now }
     requires variables { AreVariables select.now.names }
-    ensures { (L : List Triples) → IsStoreOf L store
-        → IfOk result (λ answer. AnswersOver L select.now.names select.now.pattern quanta.now answer.text.items (string_bytes answer.counts)) }
+    ensures refused { IfErr result.0 (λ e. MayRefuse e store (record { header = store.header; device = B.device result.1 })) }
+    ensures answered { (triples : List Triples) → IsStoreOf triples store
+        → AnswersOr triples select.now.names select.now.pattern quanta.now result.0 }
 {
     let mut store = store;
     let answer = answer_store(alloc, &mut store, select, quanta);
-    let _blocks = store.close();
-    match answer {
-        Ok(answer) => Ok(answer),
-        Err(fault) => Err(memory_of(fault)),
-    }
+    (answer, store.close())
 }
 
 /// The answer over a store file in memory, in pages of as many steps as the quanta say.
@@ -150,7 +146,13 @@ fn answer_image(
         → IfOk result (λ answer. AnswersOver L select.now.names select.now.pattern quanta.now answer.text.items (string_bytes answer.counts)) }
 {
     match Store::open(NeverBlocks::new(image)) {
-        Ok(store) => answer_opened(alloc, store, select, quanta),
+        Ok(store) => {
+            let (answer, _blocks) = answer_opened(alloc, store, select, quanta);
+            match answer {
+                Ok(answer) => Ok(answer),
+                Err(fault) => Err(memory_of(fault)),
+            }
+        }
         Err(_) => unreachable!(),
     }
 }
