@@ -2,5 +2,6 @@
 #![tactic(auto)]
 
 mod symbol;
+mod words;
 
 pub use symbol::{Shape, Symbol};
