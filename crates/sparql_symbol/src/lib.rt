@@ -2,6 +2,7 @@
 #![tactic(auto)]
 
 mod symbol;
+mod undoing;
 mod words;
 
 pub use symbol::{Shape, Symbol};
