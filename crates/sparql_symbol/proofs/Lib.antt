@@ -1,1 +1,2 @@
 pub mod Undoings
+pub mod Escapes
