@@ -1,2 +1,4 @@
 pub mod Words
 pub mod Undoing
+pub mod Symbols
+pub mod Prologue
