@@ -2,3 +2,5 @@ pub mod Words
 pub mod Undoing
 pub mod Symbols
 pub mod Prologue
+pub mod Unsupported
+pub mod Refusals
