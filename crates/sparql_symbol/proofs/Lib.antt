@@ -1,2 +1,3 @@
 pub mod Undoings
 pub mod Escapes
+pub mod Frames

@@ -4,3 +4,5 @@ pub mod Symbols
 pub mod Prologue
 pub mod Unsupported
 pub mod Refusals
+pub mod Reading
+pub mod Names

@@ -1,6 +1,9 @@
 //! What the tokens of a query text are to the grammar: keywords, signs, and values with their escapes undone.
 #![tactic(auto)]
 
+mod parts;
+mod prefixes;
+mod reading;
 mod symbol;
 mod undoing;
 mod words;
