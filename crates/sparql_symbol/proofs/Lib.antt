@@ -1,3 +1,4 @@
 pub mod Undoings
 pub mod Escapes
 pub mod Frames
+pub mod Nestings

@@ -6,25 +6,31 @@ use Rattle.term_core.specs.Numbers as numbers
 use Rattle.term_core.specs.Numbers.{Number, xsd_integer, xsd_decimal}
 use Rattle.term_core.specs.declared.token.Kind.{Kind}
 use Rattle.term_core.specs.declared.token.Kind.TheVariants as kinds
+use Rattle.sparql_symbol.specs.declared.unsupported.Before.{Before}
 use Rattle.sparql_symbol.specs.Words.{is_word, is_unsupported_word}
 use Rattle.sparql_symbol.specs.Symbols.{Lexeme}
 
 -- what has come before a token: a SELECT anywhere, and LIMIT or OFFSET directly
-pub record Before : Type 0 where
-  pub select : Bool
-  pub count : Bool
-
 abbrev pub before : Bool → Bool → Before
 before select count = record { select = select; count = count }
 
 -- a number past 2^64 - 1
-abbrev pub is_past_64_bits : Option Number → Bool
-is_past_64_bits (Some (numbers.Whole m)) = int_lt (pos (2 ^ 64 - 1)) m
-is_past_64_bits _ = false
+abbrev pub is_past_64_bits : Number → Bool
+is_past_64_bits (numbers.Whole m) = int_lt (pos (2 ^ 64 - 1)) m
+is_past_64_bits (numbers.Decimal m s) = false
 
--- an integer that is not read (XSD 1.1 part 2, 3.4.13), or past 2^64 - 1 behind LIMIT or OFFSET
+-- an integer that is not read, or where a number of rows stands is past 2^64 - 1
+abbrev pub is_unsupported_number : Bool → Option Number → Bool
+is_unsupported_number count None = true
+is_unsupported_number count (Some n) = count && is_past_64_bits n
+
+-- an integer (XSD 1.1 part 2, 3.4.13), behind LIMIT or OFFSET or elsewhere
 abbrev pub is_unsupported_integer : Bool → List ℕ → Bool
-is_unsupported_integer count text = is_none (numbers.read text xsd_integer) || (count && is_past_64_bits (numbers.read text xsd_integer))
+is_unsupported_integer count text = is_unsupported_number count (numbers.read text xsd_integer)
+
+-- a decimal that is not read (XSD 1.1 part 2, 3.3.3)
+abbrev pub is_unsupported_decimal : List ℕ → Bool
+is_unsupported_decimal text = is_none (numbers.read text xsd_decimal)
 
 -- a word that is not answered, or a second SELECT (SPARQL 1.1, 12)
 abbrev pub is_unsupported_in : Bool → List ℕ → Bool
@@ -38,7 +44,7 @@ is_bracket text = bytes_eq text (codes "[") || bytes_eq text (codes "]")
 abbrev pub is_unsupported_of : Before → Kind → List ℕ → Bool
 is_unsupported_of b kinds.Double text = true
 is_unsupported_of b kinds.Integer text = is_unsupported_integer b.count text
-is_unsupported_of b kinds.Decimal text = is_none (numbers.read text xsd_decimal)
+is_unsupported_of b kinds.Decimal text = is_unsupported_decimal text
 is_unsupported_of b kinds.Word text = is_unsupported_in b.select text
 is_unsupported_of b kinds.Sign text = is_bracket text
 is_unsupported_of b _ text = false

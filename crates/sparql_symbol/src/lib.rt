@@ -6,6 +6,7 @@ mod prefixes;
 mod reading;
 mod symbol;
 mod undoing;
+mod unsupported;
 mod words;
 
 pub use symbol::{Shape, Symbol};
