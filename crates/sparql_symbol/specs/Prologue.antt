@@ -1,8 +1,8 @@
 -- The prologue of a query: declarations of prefixes (SPARQL 1.1, 4.1.1 and 19.8, rules 4 and 6).
-use Rattle.std.specs.Prelude.{◌≡◌, ◌++◌, ℕ, Bool, true, codes, List, [], ◌∷◌, Option, Some, None, if◌then◌else◌}
+use Rattle.std.specs.Prelude.{◌≡◌, ℕ, true, codes, List, [], ◌∷◌, Option, Some, None, if◌then◌else◌}
 use Rattle.std.specs.Str.{bytes_eq, chars, encode_utf8_all}
 use Rattle.term_core.specs.Names.{has_scheme}
-use Rattle.term_core.specs.Terminals.{IsIri}
+use Rattle.term_core.specs.Terminals.{IsIri, IsPrefixedName}
 use Rattle.term_core.specs.declared.token.Kind.TheVariants as kinds
 use Rattle.sparql_symbol.specs.Words.{is_word}
 use Rattle.sparql_symbol.specs.Symbols.{Lexeme, Prefixes}
@@ -14,13 +14,15 @@ pub record Declaration : Type 0 where
 
 -- the word PREFIX, without case (SPARQL 1.1, 19.8, rule 6)
 pub record IsPrefixWord (l : Lexeme) : Type 0 where
-  pub word : l.kind ≡ kinds.Word
-  pub prefix : is_word l.text (codes "PREFIX") ≡ true
+  pub kind : l.kind ≡ kinds.Word
+  pub word : is_word l.text (codes "PREFIX") ≡ true
 
 -- a prefix and its colon, with no local name (SPARQL 1.1, 19.8, PNAME_NS)
 pub record IsPrefixName (l : Lexeme) (prefix : List ℕ) : Type 0 where
-  pub name : l.kind ≡ kinds.PName
-  pub spelled : l.text ≡ prefix ++ 58 ∷ []
+  pub kind : l.kind ≡ kinds.PName
+  pub name : IsPrefixedName (chars l.text)
+  pub no_local : name.local ≡ []
+  pub spelled : prefix ≡ encode_utf8_all name.prefix
 
 -- an IRI with a scheme, behind its escapes (SPARQL 1.1, 19.8, IRIREF; RFC 3986, 3.1)
 pub record IsAbsolute (l : Lexeme) (iri : List ℕ) : Type 0 where

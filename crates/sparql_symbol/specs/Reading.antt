@@ -1,8 +1,9 @@
 -- How the symbol of a token is read off its bytes.
-use Rattle.std.specs.Prelude.{◌≡◌, ◌++◌, ◌≤◌, ◌+◌, ◌-◌, ℕ, Bool, false, ◌==◌, ◌&&◌, List, [], ◌∷◌, map, length, Option, Some, None, if◌then◌else◌}
+use Rattle.std.specs.Prelude.{codes, ◌≡◌, ◌≤◌, ◌+◌, ◌-◌, ℕ, Bool, true, false, ◌==◌, ◌&&◌, List, [], ◌∷◌, map, length, Option, Some, None, if◌then◌else◌}
 use Rattle.std.specs.Char.{to_ascii_lowercase}
 use Rattle.std.specs.List.{slice_range}
 use Rattle.std.specs.Str.{chars, encode_utf8_all, IsCharBoundary, IsUtf8}
+use Rattle.term_core.specs.Names.{has_scheme}
 use Rattle.term_core.specs.Terminals.{IsToken}
 use Rattle.term_core.specs.declared.token.Kind.{Kind}
 use Rattle.term_core.specs.declared.token.Kind.TheVariants as kinds
@@ -11,8 +12,9 @@ use Rattle.sparql_symbol.specs.declared.symbol.Shape.TheVariants as shapes
 use Rattle.sparql_symbol.specs.declared.symbol.Symbol.{Symbol}
 use Rattle.sparql_symbol.specs.declared.undoing.Place.TheVariants as places
 use Rattle.sparql_symbol.specs.Undoing.{undone}
-use Rattle.sparql_symbol.specs.Words.{sign_shape}
-use Rattle.sparql_symbol.specs.Symbols.{Prefixes, symbol, bare, other, iri_symbol, name_symbol, word_symbol}
+use Rattle.sparql_symbol.specs.Words.{is_word, sign_shape}
+use Rattle.sparql_symbol.specs.Symbols.{Lexeme, Prefixes, symbol, bare, other, iri_symbol, name_symbol, word_symbol}
+use Rattle.sparql_symbol.specs.Prologue.{Declaration, with_declaration}
 
 -- a token stands in the text, between two of its characters
 pub record Stands (text : List ℕ) (t : Token) : Type 0 where
@@ -79,3 +81,58 @@ read_symbol prefixes kinds.Decimal text = symbol shapes.Decimal text
 read_symbol prefixes kinds.Double text = other
 read_symbol prefixes kinds.Word text = word_symbol text
 read_symbol prefixes kinds.Sign text = bare (sign_shape text)
+
+-- the symbols of all tokens
+abbrev pub read_symbols : Prefixes → List Lexeme → List Symbol
+read_symbols prefixes [] = []
+read_symbols prefixes (l ∷ ls) = read_symbol prefixes l.kind l.text ∷ read_symbols prefixes ls
+
+-- ---- the prologue
+
+-- the word PREFIX
+abbrev pub is_prefix_word : Kind → List ℕ → Bool
+is_prefix_word kinds.Word text = is_word text (codes "PREFIX")
+is_prefix_word _ text = false
+
+-- the prefix in front of the colon, where no local name stands behind it
+abbrev pub prefix_before : List ℕ → List ℕ → Option (List ℕ)
+prefix_before prefix [] = Some prefix
+prefix_before prefix (b ∷ local) = None
+
+-- the prefix of a name without a local name
+abbrev pub prefix_at : Kind → List ℕ → Option (List ℕ)
+prefix_at kinds.PName text = prefix_before (before_colon text) (behind_colon text)
+prefix_at _ text = None
+
+-- the prefix that two tokens declare
+abbrev pub declared_prefix : Lexeme → Lexeme → Option (List ℕ)
+declared_prefix word name = if is_prefix_word word.kind word.text then prefix_at name.kind name.text else None
+
+-- the IRI of a token, where it has a scheme
+abbrev pub absolute_iri : Kind → List ℕ → Option (List ℕ)
+absolute_iri kinds.Iri text = if has_scheme (iri_at text) then Some (iri_at text) else None
+absolute_iri _ text = None
+
+-- a prefix with its IRI
+abbrev pub declared_by : Option (List ℕ) → Option (List ℕ) → Option Declaration
+declared_by (Some prefix) (Some iri) = Some (record { prefix = prefix; iri = iri })
+declared_by _ _ = None
+
+-- what three tokens declare
+abbrev pub declaration_at : Lexeme → Lexeme → Lexeme → Option Declaration
+declaration_at word name iri = declared_by (declared_prefix word name) (absolute_iri iri.kind iri.text)
+
+-- a declaration with what follows, or all tokens where there is none
+abbrev pub with_first : Option Declaration → List Lexeme → List Declaration × List Lexeme → List Declaration × List Lexeme
+with_first None all more = ([], all)
+with_first (Some d) all more = (d ∷ more.0, more.1)
+
+-- the declarations at the front, and what is behind them
+abbrev pub read_prologue : List Lexeme → List Declaration × List Lexeme
+read_prologue (word ∷ name ∷ iri ∷ ls) = with_first (declaration_at word name iri) (word ∷ name ∷ iri ∷ ls) (read_prologue ls)
+read_prologue ls = ([], ls)
+
+-- the prefixes became those with the declaration, if there is one
+abbrev pub Becomes : Option Declaration → Bool → Prefixes → Prefixes → Type 0
+Becomes None found old new = (found ≡ false) × ((prefix : List ℕ) → new prefix ≡ old prefix)
+Becomes (Some d) found old new = (found ≡ true) × ((prefix : List ℕ) → new prefix ≡ with_declaration old d prefix)

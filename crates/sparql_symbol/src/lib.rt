@@ -3,6 +3,7 @@
 
 mod parts;
 mod prefixes;
+mod prologue;
 mod reading;
 mod symbol;
 mod undoing;
