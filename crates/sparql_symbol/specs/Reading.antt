@@ -14,7 +14,7 @@ use Rattle.sparql_symbol.specs.declared.undoing.Place.TheVariants as places
 use Rattle.sparql_symbol.specs.Undoing.{undone}
 use Rattle.sparql_symbol.specs.Words.{is_word, sign_shape}
 use Rattle.sparql_symbol.specs.Symbols.{Lexeme, Prefixes, symbol, bare, other, iri_symbol, name_symbol, word_symbol}
-use Rattle.sparql_symbol.specs.Prologue.{Declaration, with_declaration}
+use Rattle.sparql_symbol.specs.Prologue.{Declaration, with_declaration, prefixes_of}
 
 -- a token stands in the text, between two of its characters
 pub record Stands (text : List ℕ) (t : Token) : Type 0 where
@@ -136,3 +136,7 @@ read_prologue ls = ([], ls)
 abbrev pub Becomes : Option Declaration → Bool → Prefixes → Prefixes → Type 0
 Becomes None found old new = (found ≡ false) × ((prefix : List ℕ) → new prefix ≡ old prefix)
 Becomes (Some d) found old new = (found ≡ true) × ((prefix : List ℕ) → new prefix ≡ with_declaration old d prefix)
+
+-- the symbols of the tokens behind the prologue
+abbrev pub AreRead : List Lexeme → List Symbol → Type 0
+AreRead ls symbols = symbols ≡ read_symbols (prefixes_of (read_prologue ls).0) (read_prologue ls).1

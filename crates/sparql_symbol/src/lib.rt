@@ -4,10 +4,13 @@
 mod parts;
 mod prefixes;
 mod prologue;
+mod query_symbols;
 mod reading;
 mod symbol;
 mod undoing;
 mod unsupported;
 mod words;
 
+pub use query_symbols::symbols;
 pub use symbol::{Shape, Symbol};
+
