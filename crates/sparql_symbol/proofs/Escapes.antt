@@ -7,6 +7,10 @@ use Rattle.std.specs.List.{list_all}
 use Rattle.std.specs.Char.{IsScalar, digit_value}
 use Rattle.term_core.specs.Characters.{is_hex, is_iri, AreAll}
 use Rattle.term_core.specs.Escapes.{IsUchar, IsEchar, IsIriEscape, IsStringEscape, IsIriBody, IsEscaped, nothing, character, escape, echar_value, hex_number, hex_onto}
+use Rattle.std.specs.Prelude.{codes}
+use Rattle.term_core.specs.Terminals.{is_plain_in, is_long_plain, is_quote, IsLongBody}
+use Rattle.term_core.specs.Terminals as long
+use Rattle.sparql_lex.proofs.Bools.{among}
 use Rattle.sparql_symbol.specs.declared.undoing.Place.{Place}
 use Rattle.sparql_symbol.specs.declared.undoing.Place.TheVariants as places
 use Rattle.sparql_symbol.specs.Undoing.{undone, with_digit, hex_value, char_of, is_scalar}
@@ -93,3 +97,32 @@ iri-plain c h e = let no : is_iri 92 ≡ true = ap is_iri (sym e) ∙ h in absur
 -- an IRI behind its escapes
 pub iri-undone : {text iri : List ℕ} → IsIriBody text iri → undone places.Plain text ≡ iri
 iri-undone h = escaped-undone iri-plain (λ e c p. inl p.uchar) h
+
+-- ---- strings
+
+-- a test that fails at a backslash
+apart : (p : ℕ → Bool) → p 92 ≡ false → (c : ℕ) → p c ≡ true → c ≡ 92 → ⊥
+apart p out c h e = let no : true ≡ false = sym h ∙ (ap p e ∙ out) in absurd cc
+
+short-plain : (quote : ℕ) → is_quote quote ≡ true → is_plain_in quote 92 ≡ false
+short-plain quote h = among (λ v. is_plain_in v 92 ≡ false) (codes "\"'") quote (refl, (refl, tt)) h
+
+long-plain : (quote : ℕ) → is_quote quote ≡ true → is_long_plain quote 92 ≡ false
+long-plain quote h = among (λ v. is_long_plain v 92 ≡ false) (codes "\"'") quote (refl, (refl, tt)) h
+
+quote-other : (quote : ℕ) → is_quote quote ≡ true → quote ≡ 92 → ⊥
+quote-other quote h = apart is_quote refl quote h
+
+-- a short string's characters behind its escapes
+pub short-undone : (quote : ℕ) {text value : List ℕ} → is_quote quote ≡ true → IsEscaped (is_plain_in quote) IsStringEscape text value
+    → undone places.Plain text ≡ value
+short-undone quote q h = escaped-undone (apart (is_plain_in quote) (short-plain quote q)) (λ e c p. p) h
+
+-- a long string's characters behind its escapes
+pub long-undone : (quote : ℕ) {row : ℕ} {text value : List ℕ} → is_quote quote ≡ true → IsLongBody quote row text value
+    → undone places.Plain text ≡ value
+long-undone quote q long.nothing = refl
+long-undone quote q (long.one_quote {text = text} p h) = plain-undone quote text (quote-other quote q) ∙ ap (λ t. quote ∷ t) (long-undone quote q h)
+long-undone quote q (long.character {c = c} {text = text} p h) =
+    plain-undone c text (apart (is_long_plain quote) (long-plain quote q) c p) ∙ ap (λ t. c ∷ t) (long-undone quote q h)
+long-undone quote q (long.escape {c = c} {escape = e} {text = text} p h) = escape-undone e text c p ∙ ap (λ t. c ∷ t) (long-undone quote q h)

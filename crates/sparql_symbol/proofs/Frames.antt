@@ -15,11 +15,11 @@ use Rattle.sparql_symbol.specs.Reading.{IsFramed, within, is_long, quotes_of}
 
 -- ---- characters and bytes
 
-scalars-front : (xs ys : List ℕ) → all_scalars (xs ++ ys) ≡ true → all_scalars xs ≡ true
+pub scalars-front : (xs ys : List ℕ) → all_scalars (xs ++ ys) ≡ true → all_scalars xs ≡ true
 scalars-front [] ys h = refl
 scalars-front (x ∷ xs) ys h = grind (arith, scalars-front xs ys)
 
-scalars-behind : (xs ys : List ℕ) → all_scalars (xs ++ ys) ≡ true → all_scalars ys ≡ true
+pub scalars-behind : (xs ys : List ℕ) → all_scalars (xs ++ ys) ≡ true → all_scalars ys ≡ true
 scalars-behind [] ys h = h
 scalars-behind (x ∷ xs) ys h = grind (arith, scalars-behind xs ys)
 

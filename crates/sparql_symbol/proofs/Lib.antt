@@ -3,3 +3,8 @@ pub mod Escapes
 pub mod Frames
 pub mod Nestings
 pub mod Prologues
+pub mod Standing
+pub mod NameParts
+pub mod Readings
+pub mod Declarations
+pub mod Judged
