@@ -1,19 +1,18 @@
 -- What is written with escapes is what the reading of escapes gives.
-use Rattle.std.proofs.Common.{◌≡◌, ◌∙◌, ◌<◌, ◌≤◌, ◌+◌, ◌-◌, ◌*◌, ℕ, suc, Bool, true, false, cond, nat_lt, nat_le, eqb, not, List, [], ◌∷◌, ◌++◌, inl, inr, length, Option, Some, None, refl, sym, ap, subst, arith, append_assoc}
+use Rattle.std.proofs.Common.{◌≡◌, ◌∙◌, ◌<◌, ◌≤◌, ◌+◌, ◌-◌, ◌*◌, ℕ, Bool, true, false, nat_le, eqb, List, [], ◌∷◌, ◌++◌, inl, inr, length, Some, None, refl, sym, ap, subst, arith}
 use Rattle.std.proofs.lemmas.Bool.{and_parts, eqb-true}
 use Rattle.std.proofs.lemmas.Bool.Decides.{nat_tests}
 use Rattle.std.proofs.Math.Utf8.{scalar_cases}
 use Rattle.std.specs.List.{list_all}
 use Rattle.std.specs.Char.{IsScalar, digit_value}
 use Rattle.term_core.specs.Characters.{is_hex, is_iri, AreAll}
-use Rattle.term_core.specs.Escapes.{IsUchar, IsEchar, IsIriEscape, IsStringEscape, IsIriBody, IsEscaped, nothing, character, escape, echar_value, hex_number, hex_onto}
+use Rattle.term_core.specs.Escapes.{IsUchar, IsStringEscape, IsIriBody, IsEscaped, nothing, character, escape, echar_value, hex_onto}
 use Rattle.std.specs.Prelude.{codes}
 use Rattle.term_core.specs.Terminals.{is_plain_in, is_long_plain, is_quote, IsLongBody}
 use Rattle.term_core.specs.Terminals as long
 use Rattle.sparql_lex.proofs.Bools.{among}
-use Rattle.sparql_symbol.specs.declared.undoing.Place.{Place}
 use Rattle.sparql_symbol.specs.declared.undoing.Place.TheVariants as places
-use Rattle.sparql_symbol.specs.Undoing.{undone, with_digit, hex_value, char_of, is_scalar}
+use Rattle.sparql_symbol.specs.Undoing.{undone, with_digit, hex_value, is_scalar}
 
 -- each number on the way is no greater than the last
 hex_onto-grows : (number : ℕ) (digits : List ℕ) → number ≤ hex_onto number digits

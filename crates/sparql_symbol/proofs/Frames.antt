@@ -1,11 +1,11 @@
 -- What stands between the marks of a token.
-use Rattle.std.proofs.Common.{◌≡◌, ◌∙◌, ◌≤◌, ◌<◌, ◌+◌, ◌-◌, ℕ, Bool, true, false, List, [], ◌∷◌, ◌++◌, length, take, drop, get_or, inl, inr, chars, IsUtf8, encode_utf8_all, refl, sym, ap, subst, arith, append_assoc, append-nil, length-append}
-use Rattle.std.specs.Prelude.{codes, ◌==◌, ◌&&◌}
+use Rattle.std.proofs.Common.{◌≡◌, ◌∙◌, ◌<◌, ◌+◌, ◌-◌, ℕ, true, false, List, [], ◌∷◌, ◌++◌, length, get_or, inl, inr, chars, IsUtf8, encode_utf8_all, refl, sym, ap, subst, arith, append_assoc, append-nil, length-append}
+use Rattle.std.specs.Prelude.{codes, ◌==◌}
 use Rattle.std.specs.Str.{IsCharBoundary, all_scalars}
 use Rattle.std.proofs.Math.Seq.{take-append_seam, drop-append_seam}
 use Rattle.std.proofs.Math.Utf8.{encode}
 use Rattle.std.proofs.lemmas.Bool.Decides.{nat_tests}
-use Rattle.std.proofs.lemmas.Str.{encodes-append, encodes-chars, scalars-chars, chars-encodes, IsCharBoundary-at_seam, encode_ascii, char_from_byte, length-encode, len_utf8_bounds}
+use Rattle.std.proofs.lemmas.Str.{encodes-append, encodes-chars, scalars-chars, chars-encodes, IsCharBoundary-at_seam, char_from_byte, length-encode, len_utf8_bounds}
 use Rattle.term_core.specs.Characters.{is_among}
 use Rattle.term_core.specs.Escapes.{IsEscaped, nothing, character, escape, IsStringEscape}
 use Rattle.term_core.specs.Terminals.{IsIri, IsBlank, IsVariable, IsLanguage, IsShortString, IsLongString, is_plain_in, is_quote, IsToken}

@@ -1,19 +1,18 @@
 -- The parts of a prefixed name.
-use Rattle.std.proofs.Common.{◌≡◌, ◌∙◌, ◌≤◌, ◌<◌, ◌+◌, ℕ, zero, suc, Bool, true, false, cond, eqb, not, inl, inr, List, [], ◌∷◌, ◌++◌, length, get_or, filter, chars, IsUtf8, encode_utf8_all, refl, sym, ap, subst, arith, append_assoc, append-nil, length-append}
+use Rattle.std.proofs.Common.{◌≡◌, ◌∙◌, ◌<◌, ℕ, suc, Bool, true, false, eqb, inl, inr, List, [], ◌∷◌, ◌++◌, length, get_or, chars, IsUtf8, encode_utf8_all, refl, sym, ap, arith, append_assoc, append-nil}
 use Rattle.std.specs.Prelude.{◌==◌, ◌||◌}
 use Rattle.std.specs.Str.{all_scalars}
 use Rattle.std.proofs.Math.Utf8.{encode}
-use Rattle.std.proofs.lemmas.Bool.Decides.{nat_tests}
 use Rattle.std.proofs.lemmas.Str.{encodes-append, encodes-chars, scalars-chars, chars-encodes, inside_one}
-use Rattle.term_core.specs.Characters.{is_pn, is_pn_base, is_pn_u}
-use Rattle.term_core.specs.Names.{IsDotted, IsName}
+use Rattle.term_core.specs.Characters.{is_pn, is_pn_base}
+use Rattle.term_core.specs.Names.{IsDotted}
 use Rattle.term_core.specs.Terminals.{IsPrefixedName, IsPrefix}
 use Rattle.sparql_lex.proofs.Bools.{either, same, false_of, pn-colon}
 use Rattle.sparql_symbol.specs.declared.undoing.Place.TheVariants as places
 use Rattle.sparql_symbol.specs.Symbols.{unescaped}
 use Rattle.sparql_symbol.specs.Reading.{before_colon, behind_colon, local_at}
 use Rattle.sparql_symbol.specs.Undoing.{undone}
-use Rattle.sparql_symbol.proofs.Frames.{scalars-front, scalars-behind}
+use Rattle.sparql_symbol.proofs.Frames.{scalars-behind}
 
 -- ---- no colon in a prefix
 

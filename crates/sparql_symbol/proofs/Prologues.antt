@@ -1,5 +1,5 @@
 -- The prologue, three tokens after three.
-use Rattle.std.proofs.Common.{◌≡◌, ◌∙◌, ◌<◌, ◌≤◌, ◌+◌, ℕ, suc, Bool, true, false, List, [], ◌∷◌, Option, Some, None, cond, length, drop, get_or, drop-cons, refl, sym, ap, subst, arith}
+use Rattle.std.proofs.Common.{◌≡◌, ◌∙◌, ◌<◌, ◌≤◌, ◌+◌, ℕ, suc, Bool, true, false, List, [], ◌∷◌, Option, Some, None, cond, length, drop, get_or, drop-cons, refl, sym, ap, arith}
 use Rattle.std.specs.Str.{bytes_eq}
 use Rattle.term_core.specs.declared.token.Token.{Token}
 use Rattle.sparql_symbol.specs.Symbols.{Lexeme, Prefixes, lexeme, lexemes}

@@ -1,5 +1,5 @@
 -- What is read of a token is its symbol, and its only one.
-use Rattle.std.proofs.Common.{◌≡◌, ◌∙◌, ◌⊎◌, ℕ, List, [], ◌∷◌, ◌++◌, map, inl, inr, chars, IsUtf8, encode_utf8_all, refl, sym, ap}
+use Rattle.std.proofs.Common.{◌≡◌, ◌∙◌, ℕ, List, [], ◌∷◌, map, inl, inr, chars, IsUtf8, encode_utf8_all, refl, sym, ap}
 use Rattle.std.specs.Char.{to_ascii_lowercase}
 use Rattle.term_core.specs.Terminals.{IsToken, IsIri, IsShortString, IsLongString}
 use Rattle.term_core.specs.declared.token.Kind.{Kind}
@@ -9,11 +9,11 @@ use Rattle.sparql_symbol.specs.declared.symbol.Symbol.{Symbol}
 use Rattle.sparql_symbol.specs.declared.undoing.Place.TheVariants as places
 use Rattle.sparql_symbol.specs.Undoing.{undone}
 use Rattle.sparql_symbol.specs.Symbols.{Prefixes, Lexeme, symbol, iri_symbol, name_symbol, IsStringSymbol, IsSymbolOf, AreSymbolsOf}
-use Rattle.sparql_symbol.specs.Reading.{within, spelled, behind_colon, local_at, iri_at, string_at, quotes_of, read_symbol, read_symbols}
+use Rattle.sparql_symbol.specs.Reading.{within, spelled, behind_colon, local_at, iri_at, string_at, read_symbol, read_symbols}
 use Rattle.sparql_symbol.proofs.Escapes.{iri-undone, short-undone, long-undone}
-use Rattle.sparql_symbol.proofs.Frames.{Framed, iri-framed, blank-framed, variable-framed, language-framed, StringFramed, short-framed, long-framed}
+use Rattle.sparql_symbol.proofs.Frames.{iri-framed, blank-framed, variable-framed, language-framed, StringFramed, short-framed, long-framed}
 use Rattle.sparql_symbol.proofs.NameParts.{name-read}
-use Rattle.sparql_symbol.proofs.Standing.{IsLexeme, AreLexemes}
+use Rattle.sparql_symbol.proofs.Standing.{AreLexemes}
 
 pub iri-read : (text : List ℕ) → IsUtf8 text → (h : IsIri (chars text)) → iri_at text ≡ encode_utf8_all h.iri
 iri-read text utf8 h =

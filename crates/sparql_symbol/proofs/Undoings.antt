@@ -1,5 +1,5 @@
 -- Escapes undone, one character after another.
-use Rattle.std.proofs.Common.{◌≡◌, ◌∙◌, ℕ, List, [], ◌∷◌, ◌++◌, Option, Some, None, length, chars, IsUtf8, encode_utf8_all, refl, ap, sym, append-nil, append_assoc}
+use Rattle.std.proofs.Common.{◌≡◌, ◌∙◌, ℕ, List, [], ◌∷◌, ◌++◌, Option, Some, None, length, chars, IsUtf8, encode_utf8_all, refl, ap, sym, append_assoc}
 use Rattle.std.proofs.Math.Utf8.{encode}
 use Rattle.std.proofs.lemmas.Str.{chars-nil, chars_past_char, encodes-append}
 use Rattle.sparql_symbol.specs.declared.undoing.Place.{Place}

@@ -1,5 +1,5 @@
 -- The prologue of a query: declarations of prefixes (SPARQL 1.1, 4.1.1 and 19.8, rules 4 and 6).
-use Rattle.std.specs.Prelude.{◌≡◌, ℕ, true, codes, List, [], ◌∷◌, Option, Some, None, if◌then◌else◌}
+use Rattle.std.specs.Prelude.{◌≡◌, ℕ, true, codes, List, [], ◌∷◌, Some, None, if◌then◌else◌}
 use Rattle.std.specs.Str.{bytes_eq, chars, encode_utf8_all}
 use Rattle.term_core.specs.Names.{has_scheme}
 use Rattle.term_core.specs.Terminals.{IsIri, IsPrefixedName}

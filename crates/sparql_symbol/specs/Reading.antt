@@ -2,7 +2,7 @@
 use Rattle.std.specs.Prelude.{codes, ◌≡◌, ◌≤◌, ◌+◌, ◌-◌, ℕ, Bool, true, false, ◌==◌, ◌&&◌, List, [], ◌∷◌, map, length, Option, Some, None, if◌then◌else◌}
 use Rattle.std.specs.Char.{to_ascii_lowercase}
 use Rattle.std.specs.List.{slice_range}
-use Rattle.std.specs.Str.{chars, encode_utf8_all, IsCharBoundary, IsUtf8}
+use Rattle.std.specs.Str.{chars, encode_utf8_all, IsCharBoundary}
 use Rattle.term_core.specs.Names.{has_scheme}
 use Rattle.term_core.specs.Terminals.{IsToken}
 use Rattle.term_core.specs.declared.token.Kind.{Kind}
