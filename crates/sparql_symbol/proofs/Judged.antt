@@ -23,7 +23,7 @@ pub text-lexemes : (text : List ℕ) (ts : List Token) → Tokens text ts → Ar
 text-lexemes text ts h = stand-lexemes text ts h.utf8 (tokens-stand text ts h)
 
 -- what stands behind the prologue
-rest-lexemes : {ls rest : List Lexeme} {ds : List Declaration} → IsPrologue ls ds rest → AreLexemes ls → AreLexemes rest
+pub rest-lexemes : {ls rest : List Lexeme} {ds : List Declaration} → IsPrologue ls ds rest → AreLexemes ls → AreLexemes rest
 rest-lexemes (ended k) h = h
 rest-lexemes (declared k more) h = rest-lexemes more h.1.1.1
 

@@ -8,3 +8,4 @@ pub mod NameParts
 pub mod Readings
 pub mod Declarations
 pub mod Judged
+pub mod Laws

@@ -1,6 +1,7 @@
 //! What the tokens of a query text are to the grammar: keywords, signs, and values with their escapes undone.
 #![tactic(auto)]
 
+pub mod law;
 mod parts;
 mod prefixes;
 mod prologue;

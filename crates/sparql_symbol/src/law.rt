@@ -1,0 +1,22 @@
+//! Laws of the symbols of a text. Each is the contract of a function that does nothing.
+
+ghost use Rattle.std.specs.Prelude.{◌≡◌, ◌⊎◌, ℕ, List};
+ghost use Rattle.sparql_tree.specs.declared.fault.QueryFault.{QueryFault};
+ghost use Rattle.sparql_symbol.specs.declared.symbol.Symbol.{Symbol};
+ghost use Rattle.sparql_symbol.specs.Refusals.{AreSymbols, IsRefused};
+
+/// A text has at most one list of symbols.
+pub fn one_list_of_symbols()
+    ensures { (text : List ℕ) (a b : List Symbol) → AreSymbols text a → AreSymbols text b → a ≡ b }
+{}
+
+/// A text has at most one first cause of a refusal.
+pub fn one_refusal()
+    ensures { (text : List ℕ) (a b : QueryFault) → IsRefused text a → IsRefused text b → a ≡ b }
+{}
+
+/// A text never has symbols and a cause of a refusal, and has always one of both.
+pub fn symbols_or_refusal()
+    ensures not_both { (text : List ℕ) (symbols : List Symbol) (fault : QueryFault) → AreSymbols text symbols → IsRefused text fault → ⊥ }
+    ensures always { (text : List ℕ) → ((symbols : List Symbol) × AreSymbols text symbols) ⊎ ((fault : QueryFault) × IsRefused text fault) }
+{}
