@@ -20,7 +20,7 @@ hex_onto-grows number [] = omega arith
 hex_onto-grows number (d ∷ digits) = let more = hex_onto-grows (number * 16 + digit_value d) digits in omega arith
 
 scalar-small : (n : ℕ) → IsScalar n → n < 1114112
-scalar-small n h = elim (scalar_cases n h) [ | inl low ↦ omega (arith, low) | inr high ↦ high.1 ]
+scalar-small n h = elim (scalar_cases n h) [ inl low ↦ omega (arith, low) | inr high ↦ high.1 ]
 
 scalar-is : (n : ℕ) → IsScalar n → is_scalar n ≡ true
 scalar-is n h = elim (scalar_cases n h) [

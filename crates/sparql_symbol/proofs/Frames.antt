@@ -127,9 +127,9 @@ short-open : (quote : ℕ) (body value : List ℕ) → Quote quote → IsEscaped
 short-open quote [] value q h = rw q.one refl
 short-open quote (c ∷ body) value q h =
     rw q.one (not-long quote (encode c ++ encode_utf8_all (body ++ quote ∷ [])) (λ e.
-        let some : 0 < length (encode c ++ encode_utf8_all (body ++ quote ∷ [])) = omega (arith, length-append (encode c) (encode_utf8_all (body ++ quote ∷ [])), length-encode c, len_utf8_bounds c) in
-        let small : get_or (encode c ++ encode_utf8_all (body ++ quote ∷ [])) 0 0 < 128 = omega (arith, e, q.small) in
-        short-first quote q h c body refl (char_from_byte (encode c ++ encode_utf8_all (body ++ quote ∷ [])) (encode_utf8_all (body ++ quote ∷ [])) c refl small some ∙ e)))
+    let some : 0 < length (encode c ++ encode_utf8_all (body ++ quote ∷ [])) = omega (arith, length-append (encode c) (encode_utf8_all (body ++ quote ∷ [])), length-encode c, len_utf8_bounds c) in
+    let small : get_or (encode c ++ encode_utf8_all (body ++ quote ∷ [])) 0 0 < 128 = omega (arith, e, q.small) in
+    short-first quote q h c body refl (char_from_byte (encode c ++ encode_utf8_all (body ++ quote ∷ [])) (encode_utf8_all (body ++ quote ∷ [])) c refl small some ∙ e)))
 
 -- what stands between the quotes of a string, and what it spells
 pub record StringFramed (text : List ℕ) (body : List ℕ) : Type 0 where

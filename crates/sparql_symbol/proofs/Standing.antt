@@ -56,7 +56,7 @@ all-stand {at} (comment line {text = cs} h l k) text before e p s =
     all-stand k text (before ++ encode_utf8_all (35 ∷ line)) (moved text before (35 ∷ line) cs e) (size-moved before (35 ∷ line) at (width (35 ∷ line)) p refl) (scalars-behind (35 ∷ line) cs s)
 all-stand {at} (next {kind = kind} {front = front} {text = cs} {ts = ts} h k) text before e p s =
     all-cons text (token kind at (at + width front)) ts (stands-at text before front cs kind at e p s h.token)
-        (all-stand k text (before ++ encode_utf8_all front) (moved text before front cs e) (size-moved before front at (width front) p refl) (scalars-behind front cs s))
+    (all-stand k text (before ++ encode_utf8_all front) (moved text before front cs e) (size-moved before front at (width front) p refl) (scalars-behind front cs s))
 
 -- each token of a text stands in it
 pub tokens-stand : (text : List ℕ) (ts : List Token) → Tokens text ts → All (Stands text) ts

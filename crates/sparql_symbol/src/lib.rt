@@ -8,10 +8,11 @@ mod prologue;
 mod query_symbols;
 mod reading;
 mod symbol;
+#[cfg(test)]
+mod tests;
 mod undoing;
 mod unsupported;
 mod words;
 
 pub use query_symbols::symbols;
 pub use symbol::{Shape, Symbol};
-

@@ -43,13 +43,7 @@ pub fn quotes_of(text: &[u8]) -> usize
     ensures { result ≡ spec.quotes_of text.now }
 {
     match text {
-        [a, b, c, ..] => {
-            if *a == *b && *b == *c {
-                3
-            } else {
-                1
-            }
-        }
+        [a, b, c, ..] => { if *a == *b && *b == *c { 3 } else { 1 } }
         _ => 1,
     }
 }

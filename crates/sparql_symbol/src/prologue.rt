@@ -100,7 +100,12 @@ fn declare_by<'a>(
 }
 
 /// Declares the prefixes of the prologue, over those before it. The answer is how many tokens it has.
-pub fn read_prologue<'a>(alloc: Global, text: &'a str, tokens: &[Token], prefixes: &mut Prefixes<'a>) -> Result<usize, Memory>
+pub fn read_prologue<'a>(
+    alloc: Global,
+    text: &'a str,
+    tokens: &[Token],
+    prefixes: &mut Prefixes<'a>,
+) -> Result<usize, Memory>
     requires { All (Stands text.now) tokens.now }
     ensures within { IfOk result (λ n. n ≤ length tokens.now) }
     ensures rest { IfOk result (λ n. lexemes text.now (drop n tokens.now) ≡ (read_prologue (lexemes text.now tokens.now)).1) }
@@ -109,7 +114,14 @@ pub fn read_prologue<'a>(alloc: Global, text: &'a str, tokens: &[Token], prefixe
 {
     let mut at = 0;
     'declarations: while tokens.len() - at > 2 {
-        if !declare_by(alloc, text, tokens[at], tokens[at + 1], tokens[at + 2], prefixes)? {
+        if !declare_by(
+            alloc,
+            text,
+            tokens[at],
+            tokens[at + 1],
+            tokens[at + 2],
+            prefixes,
+        )? {
             return Ok(at);
         }
         at += 3;

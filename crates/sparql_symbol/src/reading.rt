@@ -124,7 +124,12 @@ fn word_symbol(alloc: Global, text: &str) -> Result<Symbol, Memory>
 
 /// The symbol of a token of this kind and text, where the prefixes stand for these IRIs. The token's
 /// text is copied once.
-pub fn read_symbol(alloc: Global, prefixes: &Prefixes<'_>, kind: Kind, text: &str) -> Result<Symbol, Memory>
+pub fn read_symbol(
+    alloc: Global,
+    prefixes: &Prefixes<'_>,
+    kind: Kind,
+    text: &str,
+) -> Result<Symbol, Memory>
     requires { IsToken kind (chars text.now) }
     ensures { IfOk result (λ s. s ≡ read_symbol (iri_of prefixes.now) kind text.now) }
 {

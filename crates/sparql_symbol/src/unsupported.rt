@@ -47,10 +47,7 @@ fn is_unsupported_number(count: bool, number: Option<Num>) -> bool
 fn is_unsupported_integer(count: bool, text: &[u8]) -> bool
     ensures { result ≡ spec.is_unsupported_integer count text.now }
 {
-    let number = read(
-        text,
-        b"http://www.w3.org/2001/XMLSchema#integer".as_slice(),
-    );
+    let number = read(text, b"http://www.w3.org/2001/XMLSchema#integer".as_slice());
     is_unsupported_number(count, number)
 }
 

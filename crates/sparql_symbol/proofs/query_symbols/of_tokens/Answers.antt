@@ -15,4 +15,4 @@ behind_prologue-requires c = tokens-stand c.args.text.now c.args.tokens.now c.re
 pub returns-clause-found : goal.returns-clause-found
 returns-clause-found c =
     symbols-are c.args.text.now c.args.tokens.now _ c.requires.small c.requires.tokens (sym c.in_default.ensures)
-        (sym c.is_too_deep.ensures ∙ c.if-is_too_deep.false) c.in_ok-behind_prologue.ensures
+    (sym c.is_too_deep.ensures ∙ c.if-is_too_deep.false) c.in_ok-behind_prologue.ensures
