@@ -68,10 +68,11 @@ first_unsupported_from b (l ∷ ls) = if is_unsupported_of b l.kind l.text then 
 abbrev pub first_unsupported : List Lexeme → Option (List ℕ)
 first_unsupported ls = first_unsupported_from (before false false) ls
 
--- what opens a group, and what closes one, of either kind
+-- what opens a group, of either kind (SPARQL 1.1, 19.8)
 abbrev pub does_open : List ℕ → Bool
 does_open text = bytes_eq text (codes "(") || bytes_eq text (codes "{")
 
+-- what closes one, of either kind
 abbrev pub does_close : List ℕ → Bool
 does_close text = bytes_eq text (codes ")") || bytes_eq text (codes "}")
 
