@@ -9,3 +9,4 @@ pub mod Readings
 pub mod Declarations
 pub mod Judged
 pub mod Laws
+pub mod Firsts

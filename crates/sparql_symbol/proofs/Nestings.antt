@@ -7,7 +7,7 @@ use Rattle.sparql_symbol.specs.Symbols.{Lexeme, lexeme, lexemes}
 use Rattle.sparql_symbol.specs.Unsupported.{open_behind, deepest_from}
 
 -- no fewer than are open at first
-deepest-least : (n : ℕ) (ls : List Lexeme) → n ≤ deepest_from n ls
+pub deepest-least : (n : ℕ) (ls : List Lexeme) → n ≤ deepest_from n ls
 deepest-least n [] = omega arith
 deepest-least n (l ∷ ls) = omega arith
 

@@ -6,3 +6,4 @@ pub mod Unsupported
 pub mod Refusals
 pub mod Reading
 pub mod Names
+pub mod Firsts

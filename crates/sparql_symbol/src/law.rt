@@ -3,7 +3,10 @@
 ghost use Rattle.std.specs.Prelude.{◌≡◌, ◌⊎◌, ℕ, List};
 ghost use Rattle.sparql_tree.specs.declared.fault.QueryFault.{QueryFault};
 ghost use Rattle.sparql_symbol.specs.declared.symbol.Symbol.{Symbol};
+ghost use Rattle.sparql_symbol.specs.Firsts.{FindsFirst, IsDeepest};
 ghost use Rattle.sparql_symbol.specs.Refusals.{AreSymbols, IsRefused};
+ghost use Rattle.sparql_symbol.specs.Symbols.{Lexeme};
+ghost use Rattle.sparql_symbol.specs.Unsupported.{first_unsupported, deepest};
 
 /// A text has at most one list of symbols.
 pub fn one_list_of_symbols()
@@ -19,4 +22,15 @@ pub fn one_refusal()
 pub fn symbols_or_refusal()
     ensures not_both { (text : List ℕ) (symbols : List Symbol) (fault : QueryFault) → AreSymbols text symbols → IsRefused text fault → ⊥ }
     ensures always { (text : List ℕ) → ((symbols : List Symbol) × AreSymbols text symbols) ⊎ ((fault : QueryFault) × IsRefused text fault) }
+{}
+
+/// The token that a refusal names is not answered, and each before it is; where none is named all are
+/// answered.
+pub fn named_is_first()
+    ensures { (ls : List Lexeme) → FindsFirst ls (first_unsupported ls) }
+{}
+
+/// The nesting of some front of the tokens is the deepest, and no front nests deeper.
+pub fn deepest_is_reached()
+    ensures { (ls : List Lexeme) → IsDeepest ls (deepest ls) }
 {}
