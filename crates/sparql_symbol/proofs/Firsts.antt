@@ -1,5 +1,5 @@
 -- The first token that is not answered, and the deepest nesting.
-use Rattle.std.proofs.Common.{◌≡◌, ◌∙◌, ◌⊎◌, inl, inr, ◌≤◌, ◌<◌, ℕ, max, Bool, true, false, cond, List, [], ◌∷◌, ◌++◌, Option, Some, None, get_or, drop, refl, sym, ap, subst, arith}
+use Rattle.std.proofs.Common.{◌≡◌, ◌∙◌, inl, inr, ◌≤◌, ◌<◌, ℕ, max, Bool, true, false, cond, List, [], ◌∷◌, ◌++◌, Option, Some, None, get_or, drop, refl, sym, ap, arith}
 use Rattle.std.specs.Prelude.{◌||◌}
 use Rattle.std.proofs.lemmas.Bool.{cases_lt}
 use Rattle.term_core.specs.declared.token.Kind.{Kind}
@@ -8,7 +8,7 @@ use Rattle.sparql_symbol.specs.declared.unsupported.Before.{Before}
 use Rattle.sparql_symbol.specs.Symbols.{Lexeme}
 use Rattle.sparql_symbol.specs.Unsupported.{before, before_next, is_unsupported_of, first_unsupported, first_unsupported_from, open_behind, deepest, deepest_from}
 use Rattle.sparql_symbol.proofs.Nestings.{deepest-least}
-use Rattle.sparql_symbol.specs.Firsts.{is_select, has_select, is_count, ends_in_count, is_unsupported_behind, AreAnswered, IsFirstUnsupported, FindsFirst, open_after, IsDeepest}
+use Rattle.sparql_symbol.specs.Firsts.{is_select, has_select, is_count, ends_in_count, is_unsupported_behind, AreAnswered, FindsFirst, open_after, IsDeepest}
 
 -- ---- what has come before, token by token
 

@@ -1,21 +1,20 @@
 -- A text has one answer.
-use Rattle.std.proofs.Common.{◌≡◌, ◌⊎◌, inl, inr, ◌∙◌, ◌<◌, ◌≤◌, ℕ, Bool, true, false, nat_lt, List, [], ◌∷◌, Option, Some, None, length, refl, sym, ap, subst, arith}
+use Rattle.std.proofs.Common.{◌≡◌, ◌⊎◌, inl, inr, ◌∙◌, ◌<◌, ◌≤◌, ℕ, Bool, true, false, nat_lt, List, Option, Some, None, length, refl, sym, ap, subst, arith}
 use Rattle.std.proofs.lemmas.Bool.Decides.{nat_tests}
 use Rattle.std.proofs.lemmas.Bool.{cases_lt}
 use Rattle.sparql_lex.proofs.Readings.{one-tokens, one-fault, not-both, always}
 use Rattle.sparql_tree.specs.declared.fault.QueryFault.{QueryFault}
 use Rattle.sparql_tree.specs.declared.fault.QueryFault.TheVariants as faults
-use Rattle.sparql_tree.specs.declared.fault.Size.{Size}
 use Rattle.sparql_tree.specs.declared.fault.Size.TheVariants as sizes
 use Rattle.term_core.specs.Tokens.{Tokens, FaultAt}
 use Rattle.term_core.specs.declared.token.Token.{Token}
 use Rattle.sparql_symbol.specs.declared.symbol.Symbol.{Symbol}
-use Rattle.sparql_symbol.specs.Symbols.{Lexeme, lexemes, AreSymbolsOf}
-use Rattle.sparql_symbol.specs.Prologue.{Declaration, prefixes_of}
+use Rattle.sparql_symbol.specs.Symbols.{Lexeme, lexemes}
+use Rattle.sparql_symbol.specs.Prologue.{prefixes_of}
 use Rattle.sparql_symbol.specs.Reading.{read_symbols, read_prologue}
-use Rattle.sparql_symbol.specs.Refusals.{AreTokensOf, AreSymbols, IsTooDeep, IsUnsupported, IsRefused}
+use Rattle.sparql_symbol.specs.Refusals.{AreTokensOf, AreSymbols, IsRefused}
 use Rattle.sparql_symbol.specs.Unsupported.{first_unsupported, deepest}
-use Rattle.sparql_symbol.proofs.Declarations.{Reads, prologue-is}
+use Rattle.sparql_symbol.proofs.Declarations.{prologue-is}
 use Rattle.sparql_symbol.proofs.Judged.{text-lexemes, tokens-of, rest-lexemes, symbols-are}
 use Rattle.sparql_symbol.proofs.Readings.{readings-of}
 use Rattle.sparql_symbol.proofs.Standing.{AreLexemes}

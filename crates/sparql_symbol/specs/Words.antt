@@ -1,6 +1,6 @@
 -- The words and signs of a query, and what each is to the grammar (SPARQL 1.1, 19.8).
-use Rattle.std.specs.Prelude.{ℕ, Bool, List, [], ◌∷◌, Option, Some, None, codes, if◌then◌else◌, ◌||◌}
-use Rattle.std.specs.List.{list_any}
+use Rattle.std.specs.Prelude.{ℕ, Bool, List, [], ◌∷◌, Option, Some, None, codes, if◌then◌else◌, ◌||◌, ◌++◌, not, map}
+use Rattle.std.specs.List.{list_any, list_all}
 use Rattle.std.specs.Str.{bytes_eq, str_eq_ignore_ascii_case}
 use Rattle.sparql_tree.specs.declared.words.AggregateKind.TheVariants as aggregates
 use Rattle.sparql_tree.specs.declared.words.Function.TheVariants as functions
@@ -122,3 +122,12 @@ making_functions = codes "BNODE" ∷ codes "IRI" ∷ codes "MD5" ∷ codes "SHA1
 abbrev pub is_unsupported_word : List ℕ → Bool
 is_unsupported_word text = is_one_of query_forms text || is_one_of updates text || is_one_of number_functions text
     || is_one_of string_functions text || is_one_of time_functions text || is_one_of making_functions text
+
+-- the words of all tables
+abbrev pub all_words : List (List ℕ)
+all_words = map (λ (row : List ℕ × Shape). row.0) (clause_words ++ pattern_words ++ term_functions ++ value_functions) ++ codes "a" ∷ codes "true" ∷ codes "false"
+    ∷ codes "PREFIX" ∷ []
+
+-- no word is answered and not answered
+abbrev pub are_words_apart : Bool
+are_words_apart = list_all (λ word. not (is_unsupported_word word)) all_words

@@ -1,12 +1,13 @@
 //! Laws of the symbols of a text. Each is the contract of a function that does nothing.
 
-ghost use Rattle.std.specs.Prelude.{◌≡◌, ◌⊎◌, ℕ, List};
+ghost use Rattle.std.specs.Prelude.{◌≡◌, ◌⊎◌, ℕ, List, true};
 ghost use Rattle.sparql_tree.specs.declared.fault.QueryFault.{QueryFault};
 ghost use Rattle.sparql_symbol.specs.declared.symbol.Symbol.{Symbol};
 ghost use Rattle.sparql_symbol.specs.Firsts.{FindsFirst, IsDeepest};
 ghost use Rattle.sparql_symbol.specs.Refusals.{AreSymbols, IsRefused};
 ghost use Rattle.sparql_symbol.specs.Symbols.{Lexeme};
 ghost use Rattle.sparql_symbol.specs.Unsupported.{first_unsupported, deepest};
+ghost use Rattle.sparql_symbol.specs.Words.{are_words_apart};
 
 /// A text has at most one list of symbols.
 pub fn one_list_of_symbols()
@@ -33,4 +34,9 @@ pub fn named_is_first()
 /// The nesting of some front of the tokens is the deepest, and no front nests deeper.
 pub fn deepest_is_reached()
     ensures { (ls : List Lexeme) → IsDeepest ls (deepest ls) }
+{}
+
+/// No word that stands in a rule of the grammar is one that is not answered.
+pub fn words_are_apart()
+    ensures { are_words_apart ≡ true }
 {}
