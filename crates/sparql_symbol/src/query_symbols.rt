@@ -79,6 +79,8 @@ fn of_tokens(alloc: Global, text: &str, tokens: &[Token]) -> Result<Items<Symbol
 /// place. `NotAQuery` and `Scope` do not come from here.
 ///
 /// The time is linear in the bytes that are read and given, but for the look-up of prefixes in a map.
+/// A declared IRI is written out at each of its names, so far more bytes may be given than are read: up
+/// to about an eighth of the square of their number.
 pub fn symbols(alloc: Global, text: &[u8]) -> Result<Items<Symbol>, QueryFault>
     ensures found { IfOk result (AreSymbols text.now) }
     ensures why { IfErr result (WhyNone text.now) }
