@@ -1,5 +1,5 @@
 -- The words and signs of a query, and what each is to the grammar (SPARQL 1.1, 19.8).
-use Rattle.std.specs.Prelude.{ℕ, Bool, List, [], ◌∷◌, Option, Some, None, codes, if◌then◌else◌, ◌||◌, ◌++◌, not, map}
+use Rattle.std.specs.Prelude.{◌≡◌, ℕ, Bool, List, [], ◌∷◌, Option, Some, None, codes, if◌then◌else◌, ◌||◌, ◌++◌, not, map}
 use Rattle.std.specs.List.{list_any, list_all}
 use Rattle.std.specs.Str.{bytes_eq, str_eq_ignore_ascii_case}
 use Rattle.sparql_tree.specs.declared.words.AggregateKind.TheVariants as aggregates
@@ -123,10 +123,18 @@ abbrev pub is_unsupported_word : List ℕ → Bool
 is_unsupported_word text = is_one_of query_forms text || is_one_of updates text || is_one_of number_functions text
     || is_one_of string_functions text || is_one_of time_functions text || is_one_of making_functions text
 
--- the words of all tables
+-- the tables of words, one behind another
+abbrev pub word_tables : Table
+word_tables = clause_words ++ pattern_words ++ term_functions ++ value_functions
+
+-- what is read of each text of a table is its own row
+abbrev pub HasEach : (List ℕ → Shape) → Table → Type 0
+HasEach shape_of [] = Unit {0}
+HasEach shape_of (row ∷ rows) = (shape_of row.0 ≡ row.1) × HasEach shape_of rows
+
+-- the words that stand in a rule of the grammar
 abbrev pub all_words : List (List ℕ)
-all_words = map (λ (row : List ℕ × Shape). row.0) (clause_words ++ pattern_words ++ term_functions ++ value_functions) ++ codes "a" ∷ codes "true" ∷ codes "false"
-    ∷ codes "PREFIX" ∷ []
+all_words = map (λ (row : List ℕ × Shape). row.0) word_tables ++ codes "a" ∷ codes "true" ∷ codes "false" ∷ codes "PREFIX" ∷ []
 
 -- no word is answered and not answered
 abbrev pub are_words_apart : Bool

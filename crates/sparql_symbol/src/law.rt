@@ -1,13 +1,13 @@
 //! Laws of the symbols of a text. Each is the contract of a function that does nothing.
 
-ghost use Rattle.std.specs.Prelude.{◌≡◌, ◌⊎◌, ℕ, List, true};
+ghost use Rattle.std.specs.Prelude.{◌≡◌, ◌⊎◌, ◌++◌, ℕ, List, true};
 ghost use Rattle.sparql_tree.specs.declared.fault.QueryFault.{QueryFault};
 ghost use Rattle.sparql_symbol.specs.declared.symbol.Symbol.{Symbol};
 ghost use Rattle.sparql_symbol.specs.Firsts.{FindsFirst, IsDeepest};
 ghost use Rattle.sparql_symbol.specs.Refusals.{AreSymbols, IsRefused};
 ghost use Rattle.sparql_symbol.specs.Symbols.{Lexeme};
 ghost use Rattle.sparql_symbol.specs.Unsupported.{first_unsupported, deepest};
-ghost use Rattle.sparql_symbol.specs.Words.{are_words_apart};
+ghost use Rattle.sparql_symbol.specs.Words.{are_words_apart, HasEach, word_tables, word_shape, marks, operators, sign_shape};
 
 /// A text has at most one list of symbols.
 pub fn one_list_of_symbols()
@@ -34,6 +34,12 @@ pub fn named_is_first()
 /// The nesting of some front of the tokens is the deepest, and no front nests deeper.
 pub fn deepest_is_reached()
     ensures { (ls : List Lexeme) → IsDeepest ls (deepest ls) }
+{}
+
+/// Each word and each sign of the tables has the shape of its own row.
+pub fn rows_have_their_shapes()
+    ensures words { HasEach word_shape word_tables }
+    ensures signs { HasEach sign_shape (marks ++ operators) }
 {}
 
 /// No word that stands in a rule of the grammar is one that is not answered.
