@@ -54,8 +54,8 @@ fn open(file: &[u8]) -> Result<Store<NeverBlocks<'_>>, Fail> {
     }
 }
 
-fn given<T>(result: Result<T, PageFault>) -> Result<T, Fail> {
-    match result {
+fn given<T>(answer: Result<T, PageFault>) -> Result<T, Fail> {
+    match answer {
         Ok(value) => Ok(value),
         Err(_) => Err("refused")?,
     }
@@ -83,7 +83,10 @@ fn follows_pages_of_one_step(rt: HostRuntime) -> Result<(), Fail> {
     let file = file(alloc)?;
     let mut store = open(&file)?;
     let pattern = pattern(alloc, "y")?;
-    let part = given(Part::new(alloc, &mut store, &pattern))?;
+    let part = match Part::new(alloc, &mut store, &pattern) {
+        Ok(part) => part,
+        Err(_) => Err("refused")?,
+    };
     let names = names(alloc)?;
     let mut out = Vec::new(alloc);
     push_header(&mut out, names.as_slice())?;
@@ -113,7 +116,10 @@ fn page_at(alloc: Global, object: &str, next: Option<&[u8]>) -> Result<Option<Pa
     let file = file(alloc)?;
     let mut store = open(&file)?;
     let pattern = pattern(alloc, object)?;
-    let part = given(Part::new(alloc, &mut store, &pattern))?;
+    let part = match Part::new(alloc, &mut store, &pattern) {
+        Ok(part) => part,
+        Err(_) => Err("refused")?,
+    };
     match part.page(alloc, &mut store, next, 1) {
         Err(PageFault::Plan) => Ok(None),
         other => Ok(Some(given(other)?)),
