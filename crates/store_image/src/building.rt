@@ -11,7 +11,8 @@ ghost use Rattle.triple_table.specs.Keys.{order_of, keys_by};
 ghost use Rattle.std.specs.List.Sorted.{IsStrictlySortedBy};
 ghost use Rattle.term_core.specs.Ids.{id_cmp};
 ghost use Rattle.store_image.specs.Holds.{Holds};
-ghost use Rattle.store_image.specs.Image.{padded, header_bytes, place_bytes, header_of, areas, IsImage};
+ghost use Rattle.store_image.specs.Header.{header_bytes};
+ghost use Rattle.store_image.specs.Image.{padded, place_bytes, header_of, areas, IsImage};
 
 use crate::header::{Header, list_blocks, place_blocks};
 use btree_build::push_entries;
