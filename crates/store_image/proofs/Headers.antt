@@ -1,11 +1,11 @@
 -- The header's bytes are read as the header.
-use Rattle.std.proofs.Common.{◌≡◌, ◌^◌, ◌<◌, length, take, drop, refl, sym, arith}
+use Rattle.std.proofs.Common.{◌≡◌, ◌∙◌, ℕ, List, ◌^◌, ◌<◌, length, take, drop, refl, sym, arith}
 use Rattle.std.specs.Prelude.{codes}
 use Rattle.std.proofs.lemmas.List.{take_at}
 use Rattle.std.proofs.lemmas.Nat.{from_be_bytes-to_be_bytes_4}
 use Rattle.store_image.specs.declared.header.Header.{Header}
-use Rattle.store_image.specs.Header.{number_at, IsHeader}
-use Rattle.store_image.specs.Image.{IsWithin, header_bytes, padded}
+use Rattle.store_image.specs.Header.{number_at, IsHeader, IsWithin, header_bytes}
+use Rattle.store_image.specs.Image.{padded}
 use Rattle.store_image.proofs.Padding.{length_padded}
 
 module _ (h : Header) (named : length h.data_id ≡ 32) where
@@ -55,3 +55,13 @@ module _ (h : Header) (named : length h.data_id ≡ 32) where
     short = within.short;
     room = within.room;
   }
+
+-- the block determines the header
+pub header_alone : (block : List ℕ) (count : ℕ) (g h : Header) → IsHeader block count g → IsHeader block count h → g ≡ h
+header_alone block count g h a b =
+    let blocks : g.blocks ≡ h.blocks = a.blocks ∙ sym b.blocks in
+    let terms : g.terms ≡ h.terms = a.terms ∙ sym b.terms in
+    let triples : g.triples ≡ h.triples = a.triples ∙ sym b.triples in
+    let longest : g.longest ≡ h.longest = a.longest ∙ sym b.longest in
+    let name : g.data_id ≡ h.data_id = a.data_name ∙ sym b.data_name in
+    λ i. record { blocks = blocks i; terms = terms i; triples = triples i; longest = longest i; data_id = name i }

@@ -25,9 +25,9 @@ use Rattle.triple_table.specs.Table.{IsBelow, IsTable}
 use Rattle.triple_table.specs.Keys.{order_of, ids_of_key, keys_by}
 use Rattle.triple_table.proofs.Keys.{sorted-keys_by, from_In-keys_by, length-keys_by}
 use Rattle.store_image.specs.declared.header.Header.{Header}
-use Rattle.store_image.specs.Header.{place_blocks, list_blocks, dict_of, tree_of, IsHeader}
+use Rattle.store_image.specs.Header.{place_blocks, list_blocks, dict_of, tree_of, IsHeader, IsWithin, header_bytes}
 use Rattle.store_image.specs.Holds.{Holds}
-use Rattle.store_image.specs.Image.{IsWithin, blocks_of, header_bytes, padded, place_bytes, header_of, image_of}
+use Rattle.store_image.specs.Image.{blocks_of, padded, place_bytes, header_of, image_of}
 use Rattle.store_image.proofs.Padding.{length_padded, in_blocks_padded}
 use Rattle.store_image.proofs.Areas.{Begins, at_first, at_end, behind_other, within, area_begins, blocks_begin}
 use Rattle.store_image.proofs.Sizes.{length_list, length_places, records_short, longest_short, no_more, three_each}

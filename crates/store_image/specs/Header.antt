@@ -1,6 +1,7 @@
 -- The first block of a store file, and where the areas stand that follow it.
-use Rattle.std.specs.Prelude.{◌≡◌, ℕ, ◌+◌, ◌-◌, ◌*◌, ◌/◌, ◌≤◌, List, take, drop, codes}
+use Rattle.std.specs.Prelude.{◌≡◌, ℕ, ◌+◌, ◌-◌, ◌*◌, ◌/◌, ◌≤◌, List, ◌++◌, take, drop, codes}
 use Rattle.std.specs.Int.{w32, from_be_bytes}
+use Rattle.plan_tree.specs.Spelling.{number_bytes}
 use Rattle.term_dict.specs.declared.dict.Dict.{Dict}
 use Rattle.btree_scan.specs.declared.tree.Tree.{Tree}
 use Rattle.store_image.specs.declared.header.Header.{Header}
@@ -53,3 +54,17 @@ pub record IsHeader (block : List ℕ) (count : ℕ) (h : Header) : Type 0 where
   pub named : h.terms ≤ 3 * h.triples
   pub short : h.longest ≤ 262153
   pub room : fixed_blocks h.terms h.triples ≤ h.blocks
+
+-- the numbers are within their limits, and a file of so many blocks has room for all areas
+pub record IsWithin (h : Header) (count : ℕ) : Type 0 where
+  pub counted : h.blocks ≡ count
+  pub few : h.triples ≤ 4194303
+  pub named : h.terms ≤ 3 * h.triples
+  pub short : h.longest ≤ 262153
+  pub room : fixed_blocks h.terms h.triples ≤ h.blocks
+
+-- the mark of format 0, four numbers of four bytes, the highest first (network byte order, RFC 791 appendix B), and the
+-- name of the data
+unfoldable pub header_bytes : Header → List ℕ
+header_bytes h = codes "SAGESTO0" ++ (number_bytes h.blocks ++ (number_bytes h.terms ++ (number_bytes h.triples
+    ++ (number_bytes h.longest ++ h.data_id))))

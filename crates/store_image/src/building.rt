@@ -11,7 +11,8 @@ ghost use Rattle.triple_table.specs.Keys.{order_of, keys_by};
 ghost use Rattle.std.specs.List.Sorted.{IsStrictlySortedBy};
 ghost use Rattle.term_core.specs.Ids.{id_cmp};
 ghost use Rattle.store_image.specs.Holds.{Holds};
-ghost use Rattle.store_image.specs.Image.{padded, header_bytes, place_bytes, header_of, areas, IsImage};
+ghost use Rattle.store_image.specs.Header.{header_bytes};
+ghost use Rattle.store_image.specs.Image.{padded, place_bytes, header_of, areas, IsImage};
 
 use crate::header::{Header, list_blocks, place_blocks};
 use btree_build::push_entries;
@@ -131,11 +132,13 @@ fn written(alloc: Global, table: &Table, header: &Header) -> Result<Vec<u8>, Mem
     Ok(out)
 }
 
-/// The bytes of the store file of a document's triples: the set of them, so that neither their order
-/// counts nor how often one stands. Whether `short` holds is what `have_short_terms` tells. Terms are
-/// compared once, to put them in order; the three lists
-/// are sorted as numbers. Room for the whole file is taken at once, and each part is written to it
-/// once.
+/// The bytes of the store file of a document's triples, in blocks of 4,096. They are a set (RDF 1.1
+/// Concepts, section 3): neither their order counts nor how often one stands. `have_short_terms`
+/// tells whether `short` holds. Want of memory is the one error.
+///
+/// Terms are compared once, to put them in order, and the three lists are sorted as numbers. Room
+/// for the whole file is taken at once, when what numbered the terms is let go, and each part is
+/// written to it once.
 pub fn image(alloc: Global, triples: &[Triple]) -> Result<Vec<u8>, Memory>
     requires few { length triples.now ≤ 4194303 }
     requires short { (t : Terms) → In (flat_map parts triples.now) t → size_of t ≤ 262144 }

@@ -2,8 +2,7 @@
 ghost use Rattle.std.specs.Prelude.{◌≡◌, ◌↔◌, ◌+◌, ◌≤◌, ◌++◌, IsTrue, MatchOption, OnOk, codes, take, drop};
 ghost use Rattle.std.specs.Int.{w32, to_be_bytes};
 ghost use Rattle.store_image.specs.declared.header.Header.{Header};
-ghost use Rattle.store_image.specs.Header.{place_blocks, list_blocks, fixed_blocks, dict_of, tree_of, number_at, IsHeader};
-ghost use Rattle.store_image.specs.Image.{IsWithin, header_bytes};
+ghost use Rattle.store_image.specs.Header.{place_blocks, list_blocks, fixed_blocks, dict_of, tree_of, number_at, IsHeader, IsWithin, header_bytes};
 
 use btree_scan::Tree;
 use term_core::Memory;
@@ -100,7 +99,7 @@ impl Header {
     }
 
     /// Appends the header's bytes, without the zeros behind them: mark, four numbers, name.
-    #[tactic(auto, unfolding(crate::specs::Image::header_bytes))]
+    #[tactic(auto, unfolding(crate::specs::Header::header_bytes))]
     pub fn push(&self, out: &mut Vec<u8>) -> Result<(), Memory>
         ensures { OnOk result (out.new.items ≡ out.old.items ++ header_bytes self.now) }
     {

@@ -10,5 +10,5 @@ mod tests;
 
 pub use building::image;
 pub use header::Header;
-pub use law::equal_sets_give_equal_images;
+pub use law::{equal_sets_give_equal_images, headers_are_alone};
 pub use limits::have_short_terms;

@@ -1,5 +1,5 @@
 -- The tables of data with the same triples are the same.
-use Rattle.std.proofs.Common.{◌≡◌, List, length, map, sym, ap, ◌∙◌, subst, Equal}
+use Rattle.std.proofs.Common.{◌≡◌, List, length, sym, ap, ◌∙◌, subst}
 use Rattle.std.specs.Prelude.{flat_map}
 use Rattle.std.proofs.lemmas.Cmp.{tied_itself}
 use Rattle.term_core.specs.declared.term.Term.{Term}
@@ -23,11 +23,11 @@ use Rattle.triple_table.proofs.TableOrder.{same_triple_order}
 pub decode_apart : (terms : List Term) (L : List Triple) (ids : List IdTriple) → IsTable L terms ids → (a b : IdTriple) → IsBelow (length terms) a → IsBelow (length terms) b
     → decode terms a ≡ decode terms b → a ≡ b
 decode_apart terms L ids table a b p q e = same_ids a b (
-  same_triple_order terms a b table.rising p q
-  ∙ ap (λ t. triple_cmp by_subject (decode terms a) t) (sym e)
-  ∙ sym (same_triple_order terms a a table.rising p p)
-  ∙ tied_itself ids_total a
-)
+    same_triple_order terms a b table.rising p q
+    ∙ ap (λ t. triple_cmp by_subject (decode terms a) t) (sym e)
+    ∙ sym (same_triple_order terms a a table.rising p p)
+    ∙ tied_itself ids_total a
+    )
 
 parts_move : (D E : List Triple) → ((t : Triple) → In D t → In E t) → (u : Term) → In (flat_map parts D) u → In (flat_map parts E) u
 parts_move D E to u i = let r = from_In-flat_map parts D u i in In-flat_map parts E r.0 u (to r.0 r.1) r.2

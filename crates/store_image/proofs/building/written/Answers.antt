@@ -5,7 +5,8 @@ use Rattle.plan_tree.specs.Index.{by_subject, by_predicate, by_object}
 use Rattle.triple_table.specs.Table.{terms_in, ids_in}
 use Rattle.triple_table.specs.Keys.{keys_by}
 use Rattle.triple_table.proofs.Keys.{keys_by_subject}
-use Rattle.store_image.specs.Image.{padded, header_bytes, place_bytes}
+use Rattle.store_image.specs.Header.{header_bytes}
+use Rattle.store_image.specs.Image.{padded, place_bytes}
 use Rattle.store_image.proofs.Areas.{six_put}
 use Rattle.store_image.proofs.building.written.Goals as goal
 

@@ -1,4 +1,4 @@
-use Rattle.std.proofs.Common.{◌≡◌, ◌≤◌, true, false, arith}
+use Rattle.std.proofs.Common.{◌≡◌, ◌≤◌, true, false}
 use Rattle.term_core.specs.Order.{size_of}
 use Rattle.store_image.proofs.Sizes.{terms_more, terms_of_one}
 use Rattle.store_image.proofs.limits.have_short_terms.Goals as goal

@@ -1,4 +1,4 @@
-use Rattle.std.proofs.Common.{◌≤◌, ◌<◌, ◌≡◌, ℕ, take, flat_map}
+use Rattle.std.proofs.Common.{◌≤◌, take, flat_map}
 use Rattle.term_core.specs.declared.term.Term.{Term}
 use Rattle.term_core.specs.Order.{size_of}
 use Rattle.term_core.specs.Bags.{In}

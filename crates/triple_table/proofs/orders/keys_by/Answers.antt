@@ -1,5 +1,4 @@
-use Rattle.std.proofs.Common.{◌≡◌, map}
-use Rattle.triple_table.specs.Keys.{order_of, key_of}
+use Rattle.triple_table.specs.Keys.{order_of}
 use Rattle.triple_table.proofs.Keys.{keys_are}
 use Rattle.triple_table.proofs.orders.keys_by.Goals as goal
 
