@@ -4,7 +4,11 @@
 mod asked;
 mod list;
 mod range;
+#[cfg(test)]
+mod range_tests;
 mod store;
+#[cfg(test)]
+mod tests;
 
 pub use range::Range;
 pub use store::{Info, OpenFault, Store, Unopened};
