@@ -1,5 +1,5 @@
 //! An opened store.
-ghost use Rattle.std.specs.Prelude.{◌≡◌, ◌<◌, ◌≤◌, ◌↔◌, ◌⊎◌, ◌+◌, ◌*◌, ◌/◌, ℕ, List, length, slice_get, count_by, Some, None, Contains, IsTrue, Ok, Err, IfOk, IfErr, MatchResult};
+ghost use Rattle.std.specs.Prelude.{◌≡◌, ◌<◌, ◌≤◌, ◌↔◌, ◌⊎◌, ◌+◌, ◌*◌, ◌/◌, ℕ, List, length, slice_get, count_by, Some, None, Contains, IsTrue, Ok, Err, IfOk, IfErr, MatchResult, true};
 ghost use Rattle.std.specs.FinMap as finmap;
 ghost use Rattle.std.specs.Ordering.{is_lt};
 ghost use Rattle.term_core.specs.declared.term.Term.{Term as Terms};
@@ -13,12 +13,13 @@ ghost use Rattle.plan_tree.specs.Trace.{range as agreeing};
 ghost use Rattle.term_dict.specs.Layout.{Reads, term_at, longest_in};
 ghost use Rattle.term_dict.specs.Ranks.{IsRank, IsGap};
 ghost use Rattle.btree_scan.specs.Cuts.{IsRange};
+ghost use Rattle.btree_scan.specs.Entries.{entry_at};
 ghost use Rattle.triple_table.specs.Table.{IsTable, IsBelow, IsFound};
 ghost use Rattle.triple_table.specs.Keys.{order_of, key_of, keys_by};
 ghost use Rattle.store_image.specs.declared.header.Header.{Header as Headers};
-ghost use Rattle.store_image.specs.Header.{IsHeader, dict_of};
+ghost use Rattle.store_image.specs.Header.{IsHeader, dict_of, tree_of};
 ghost use Rattle.triple_store.specs.Stores.{View, IsOpened, IsKept, IsShown, IsBroken};
-ghost use Rattle.triple_store.specs.Entries.{ReadsEntry, triple_at};
+ghost use Rattle.triple_store.specs.Entries.{ReadsEntry, HasEntry, triple_at};
 
 use crate::list::{key_in, named};
 use btree_scan::{Prefix, entry, lower_bound, range};
@@ -192,6 +193,8 @@ impl<B: Blocks> Store<B> {
         ensures kept { IsKept self.old self.new }
         ensures cost { HasRead self.old.device self.new.device 46 }
         ensures failed { result ≡ Err ReadFault.Blocks → Rose self.old.device.faults self.new.device.faults }
+        ensures there { (image : List ℕ) → Tells self.old.device.image image → result ≡ Ok true
+            → (place : ℕ) × HasEntry self.old.header 0 t.now image place }
         ensures found { (terms : List Terms) (ids : List Ids) → IsShown self.old terms ids
             → IfOk result (λ b. IsTrue b ↔ Contains ids t.now) }
         ensures whole { (block : ℕ) → result ≡ Err (ReadFault.Damaged block) → ⊥ }
@@ -292,6 +295,8 @@ impl<B: Blocks> Store<B> {
         ensures kept { IsKept self.old self.new }
         ensures cost { HasRead self.old.device self.new.device 2 }
         ensures failed { result ≡ Err ReadFault.Blocks → Rose self.old.device.faults self.new.device.faults }
+        ensures read { (image : List ℕ) → Tells self.old.device.image image
+            → IfOk result (λ key. key ≡ entry_at (tree_of self.old.header order) place image) }
         ensures found { (terms : List Terms) (ids : List Ids) → IsShown self.old terms ids
             → IfOk result (λ key. slice_get (keys_by (order_of order) ids) place ≡ Some key) }
         ensures whole { (block : ℕ) → result ≡ Err (ReadFault.Damaged block) → ⊥ }
@@ -306,6 +311,8 @@ impl<B: Blocks> Store<B> {
         ensures kept { IsKept self.old self.new }
         ensures cost { HasRead self.old.device self.new.device 46 }
         ensures failed { result ≡ Err ReadFault.Blocks → Rose self.old.device.faults self.new.device.faults }
+        ensures there { (image : List ℕ) (place : ℕ) → Tells self.old.device.image image → result ≡ Ok (Some place)
+            → HasEntry self.old.header order t.now image place }
         ensures found { (terms : List Terms) (ids : List Ids) → IsShown self.old terms ids
             → IfOk result (IsFound (keys_by (order_of order) ids) (key_of (order_of order) t.now)) }
         ensures whole { (block : ℕ) → result ≡ Err (ReadFault.Damaged block) → ⊥ }
