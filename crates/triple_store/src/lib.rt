@@ -2,6 +2,7 @@
 #![tactic(auto)]
 
 mod asked;
+mod law;
 mod list;
 mod range;
 #[cfg(test)]
@@ -10,5 +11,6 @@ mod store;
 #[cfg(test)]
 mod tests;
 
+pub use law::stores_stay;
 pub use range::Range;
 pub use store::{Info, OpenFault, Store, Unopened};

@@ -17,8 +17,9 @@ ghost use Rattle.btree_scan.specs.Entries.{entry_at};
 ghost use Rattle.triple_table.specs.Table.{IsTable, IsBelow, IsFound};
 ghost use Rattle.triple_table.specs.Keys.{order_of, key_of, keys_by};
 ghost use Rattle.store_image.specs.declared.header.Header.{Header as Headers};
+ghost use Rattle.store_image.specs.Holds.{Holds};
 ghost use Rattle.store_image.specs.Header.{IsHeader, dict_of, tree_of};
-ghost use Rattle.triple_store.specs.Stores.{View, IsOpened, IsKept, IsShown, IsBroken};
+ghost use Rattle.triple_store.specs.Stores.{View, IsOpened, IsKept, IsShown, IsBroken, IsStoreOf};
 ghost use Rattle.triple_store.specs.Entries.{ReadsEntry, HasEntry, triple_at};
 
 use crate::list::{key_in, named};
@@ -112,8 +113,9 @@ impl<B: Blocks> Store<B> {
     /// Opens the blocks as a store. The first block alone is read; where there is none, nothing is.
     ///
     /// `NotAStore` comes exactly where the first block is no header of a file of so many blocks,
-    /// also where there is no block at all. `Blocks` comes only where the read failed. `Damaged`
-    /// and `Memory` never come. The blocks are given back with each.
+    /// also where there is no block at all; so blocks that hold data are a store of these data.
+    /// `Blocks` comes only where the read failed. `Damaged` and `Memory` never come. The blocks are
+    /// given back with each.
     pub fn open(blocks: B) -> Result<Store<B>, Unopened<B>>
         ensures opened { IfOk result (λ s. HasRead (B.device blocks) s.device 1) }
         ensures given_back { IfErr result (λ u. HasRead (B.device blocks) (B.device u.blocks) 1) }
@@ -122,6 +124,8 @@ impl<B: Blocks> Store<B> {
         ensures not_a_store { (image : List ℕ) → Tells (B.device blocks).image image
             → IfErr result (λ u. u.fault ≡ OpenFault.NotAStore → (h : Headers) → IsHeader (block_at 0 image) (B.device blocks).count h → ⊥) }
         ensures failed { IfErr result (λ u. u.fault ≡ OpenFault.Blocks → Rose (B.device blocks).faults (B.device u.blocks).faults) }
+        ensures holds { (L : List Triples) (image : List ℕ) → Tells (B.device blocks).image image → Holds L image
+            → MatchResult result (λ s. IsStoreOf s L) (λ u. u.fault ≡ OpenFault.Blocks) }
         ensures causes { IfErr result (λ u. (u.fault ≡ OpenFault.NotAStore) ⊎ (u.fault ≡ OpenFault.Blocks)) }
         ensures none { (B.device blocks).count ≡ 0
             → MatchResult result (λ _. ⊥) (λ u. (u.fault ≡ OpenFault.NotAStore) × (B.device u.blocks ≡ B.device blocks)) }
