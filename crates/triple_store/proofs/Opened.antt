@@ -1,5 +1,5 @@
 -- Where the areas of an opened store stand, and what its lists hold.
-use Rattle.std.proofs.Common.{◌≡◌, ℕ, zero, suc, ◌<◌, ◌≤◌, List, length, refl, sym, ap, subst, ◌∙◌, arith, get_or, map, inl, Ok, Err, Some, None, Option, false}
+use Rattle.std.proofs.Common.{◌*◌, ◌≡◌, ℕ, zero, suc, ◌<◌, ◌≤◌, List, length, refl, sym, ap, subst, ◌∙◌, arith, get_or, map, inl, Ok, Err, Some, None, Option, false}
 use Rattle.std.specs.Prelude.{slice_get, Result, IfOk, nat_le}
 use Rattle.std.specs.List.Sorted.{IsStrictlySortedBy}
 use Rattle.std.proofs.lemmas.Bool.Decides.{nat_tests}
@@ -11,6 +11,7 @@ use Rattle.sage_outside.specs.declared.fault.StoreFault.{StoreFault}
 use Rattle.sage_outside.specs.declared.fault.StoreFault.TheVariants as store_faults
 use Rattle.std.specs.Result.{IsErr, IsErrAnd}
 use Rattle.term_core.specs.declared.term.Term.{Term}
+use Rattle.term_core.specs.declared.term.Triple.{Triple}
 use Rattle.term_core.specs.declared.pattern.IdTriple.{IdTriple}
 use Rattle.term_core.specs.Bags.{In}
 use Rattle.term_core.proofs.Bags.{from_In-map}
@@ -27,9 +28,9 @@ use Rattle.triple_table.specs.Keys.{order_of, key_of, ids_of_key, keys_by}
 use Rattle.triple_table.proofs.Keys.{undone, redone}
 use Rattle.triple_table.proofs.TableLists.{In-get_or}
 use Rattle.store_image.specs.declared.header.Header.{Header}
-use Rattle.store_image.specs.Header.{dict_of, tree_of}
-use Rattle.store_image.specs.Holds.{Shows}
-use Rattle.triple_store.specs.Stores.{View, IsOpened, IsKept, IsShown, IsBroken}
+use Rattle.store_image.specs.Header.{IsHeader, dict_of, tree_of}
+use Rattle.store_image.specs.Holds.{Shows, Holds}
+use Rattle.triple_store.specs.Stores.{View, IsOpened, IsKept, IsShown, IsBroken, IsStoreOf}
 use Rattle.triple_store.specs.Entries.{ReadsEntry, named_key, triple_at}
 
 not_le : (a b : ℕ) → b < a → nat_le a b ≡ false
@@ -179,3 +180,50 @@ told_kept before now image kept told = record { told = kept.image ∙ told.told 
 
 pub broken_before : (before now : View) (image : List ℕ) (block : ℕ) → IsKept before now → IsBroken now.header image block → IsBroken before.header image block
 broken_before before now image block kept broken = subst (λ h. IsBroken h image block) kept.header broken
+
+-- a block is at most one header
+same_header : (block : List ℕ) (m n : ℕ) (h k : Header) → IsHeader block m h → IsHeader block n k → h ≡ k
+same_header block m n h k p q = λ i. record {
+  blocks = (p.blocks ∙ sym q.blocks) i;
+  terms = (p.terms ∙ sym q.terms) i;
+  triples = (p.triples ∙ sym q.triples) i;
+  longest = (p.longest ∙ sym q.longest) i;
+  data_id = (p.data_name ∙ sym q.data_name) i;
+}
+
+-- so many blocks as the header tells
+block_count : (L : List Triple) (image : List ℕ) (count : ℕ) (holds : Holds L image) → length image ≡ 4096 * count → holds.header.blocks ≡ count
+block_count L image count holds long = omega (arith, long, holds.whole)
+
+pub has_header : (L : List Triple) (image : List ℕ) (count : ℕ) (holds : Holds L image) → length image ≡ 4096 * count → IsHeader (block_at 0 image) count holds.header
+has_header L image count holds long = subst (λ n. IsHeader (block_at 0 image) n holds.header) (block_count L image count holds long) holds.is_header
+
+-- an image that holds data is seen as a store of them
+pub store_of : (L : List Triple) (image : List ℕ) (count : ℕ) (store : View) (holds : Holds L image) → Tells store.device.image image → IsHeader (block_at 0 image) count store.header → IsStoreOf store L
+store_of L image count store holds told is =
+    let same : holds.header ≡ store.header = same_header (block_at 0 image) holds.header.blocks count holds.header store.header holds.is_header is in
+    record {
+      terms = holds.terms;
+      ids = holds.ids;
+      table = holds.table;
+      shown = record { image = image; told = told; shows = subst (λ h. Shows h holds.terms holds.ids image) same holds.shows };
+      term_count = sym (ap (λ h. h.terms) same) ∙ holds.term_count;
+      triple_count = sym (ap (λ h. h.triples) same) ∙ holds.triple_count;
+      longest = sym (ap (λ h. h.longest) same) ∙ holds.longest;
+      data_name = sym (ap (λ h. h.data_id) same) ∙ holds.data_name;
+    }
+
+pub told_after : (before now : Option (List ℕ)) (image : List ℕ) → now ≡ before → Tells before image → Tells now image
+told_after before now image kept told = record { told = kept ∙ told.told }
+
+pub store_kept : (L : List Triple) (before now : View) → IsKept before now → IsStoreOf before L → IsStoreOf now L
+store_kept L before now kept store = record {
+  terms = store.terms;
+  ids = store.ids;
+  table = store.table;
+  shown = shown_kept before now store.terms store.ids kept store.shown;
+  term_count = ap (λ h. h.terms) kept.header ∙ store.term_count;
+  triple_count = ap (λ h. h.triples) kept.header ∙ store.triple_count;
+  longest = ap (λ h. h.longest) kept.header ∙ store.longest;
+  data_name = ap (λ h. h.data_id) kept.header ∙ store.data_name;
+}

@@ -144,3 +144,8 @@ pub other_key : (a b : IdTriple) → (a.s == b.s && (a.p == b.p && a.o == b.o)) 
 other_key a b e same =
     let f : (a.s == b.s && (a.p == b.p && a.o == b.o)) ≡ true = subst (λ k. (a.s == k.s && (a.p == k.p && a.o == k.o)) ≡ true) same (key_itself a) in
     cc
+
+-- a place that was found is one
+pub some_place : (r : Option ℕ) (b : Bool) (P : ℕ → Type 0) → b ≡ is_some r → b ≡ true → ((place : ℕ) → r ≡ Some place → P place) → (place : ℕ) × P place
+some_place (Some k) b P is e at = (k, at k refl)
+some_place None b P is e at = cc

@@ -1,12 +1,12 @@
 -- What the entries of an opened store's lists spell.
-use Rattle.std.specs.Prelude.{◌≡◌, ℕ, ◌+◌, ◌*◌, List, Result, Ok, Err, nat_le, if◌then◌else◌}
+use Rattle.std.specs.Prelude.{◌≡◌, ℕ, ◌+◌, ◌*◌, ◌<◌, List, Result, Ok, Err, nat_le, if◌then◌else◌}
 use Rattle.sage_outside.specs.declared.fault.ReadFault.{ReadFault}
 use Rattle.sage_outside.specs.declared.fault.ReadFault.TheVariants as faults
 use Rattle.term_core.specs.declared.pattern.IdTriple.{IdTriple}
 use Rattle.term_dict.specs.Areas.{block_of}
 use Rattle.btree_scan.specs.declared.tree.Tree.{Tree}
 use Rattle.btree_scan.specs.Entries.{area_of, entry_at}
-use Rattle.triple_table.specs.Keys.{order_of, ids_of_key}
+use Rattle.triple_table.specs.Keys.{order_of, key_of, ids_of_key}
 use Rattle.store_image.specs.declared.header.Header.{Header}
 use Rattle.store_image.specs.Header.{tree_of}
 
@@ -28,3 +28,8 @@ abbrev pub ReadsEntry : Result IdTriple ReadFault → Result IdTriple ℕ → Ty
 ReadsEntry (Ok x) read = read ≡ Ok x
 ReadsEntry (Err (faults.Damaged block)) read = read ≡ Err block
 ReadsEntry (Err faults.Blocks) read = Unit {0}
+
+-- a triple's key stands at a place of an order's list
+pub record HasEntry (h : Header) (order : ℕ) (t : IdTriple) (image : List ℕ) (place : ℕ) : Type 0 where
+  pub within : place < h.triples
+  pub is : entry_at (tree_of h order) place image ≡ key_of (order_of order) t

@@ -1,9 +1,13 @@
 -- An opened store: the header that was read, and its blocks.
-use Rattle.std.specs.Prelude.{◌≡◌, ℕ, ◌*◌, ◌^◌, ◌<◌, ◌≤◌, List, Err}
+use Rattle.std.specs.Prelude.{◌≡◌, ℕ, ◌*◌, ◌^◌, ◌<◌, ◌≤◌, List, length, Err}
 use Rattle.term_core.specs.declared.term.Term.{Term}
+use Rattle.term_core.specs.declared.term.Triple.{Triple}
 use Rattle.term_core.specs.declared.pattern.IdTriple.{IdTriple}
 use Rattle.sage_outside.specs.Blocks.{Device, Tells}
+use Rattle.plan_tree.specs.Spelling.{data_id}
+use Rattle.term_dict.specs.Built.{longest_of}
 use Rattle.term_dict.specs.Layout.{term_at}
+use Rattle.triple_table.specs.Table.{IsTable}
 use Rattle.store_image.specs.declared.header.Header.{Header}
 use Rattle.store_image.specs.Header.{fixed_blocks, dict_of}
 use Rattle.store_image.specs.Holds.{Shows}
@@ -41,3 +45,15 @@ pub record IsBroken (h : Header) (image : List ℕ) (block : ℕ) : Type 0 where
   pub id : ℕ
   pub within : id < h.terms
   pub read : term_at (dict_of h) id image ≡ Err block
+
+-- the store is of these data, a set of triples: it shows the table of their terms and triples, and tells their name and
+-- how many terms and triples they are
+pub record IsStoreOf (store : View) (L : List Triple) : Type 0 where
+  pub terms : List Term
+  pub ids : List IdTriple
+  pub table : IsTable L terms ids
+  pub shown : IsShown store terms ids
+  pub term_count : store.header.terms ≡ length terms
+  pub triple_count : store.header.triples ≡ length ids
+  pub longest : store.header.longest ≡ longest_of terms
+  pub data_name : store.header.data_id ≡ data_id L

@@ -11,7 +11,7 @@ ghost use Rattle.plan_tree.specs.Index.{index_of};
 ghost use Rattle.plan_tree.specs.Trace.{range as agreeing, fits, agrees};
 ghost use Rattle.term_dict.specs.Layout.{Reads, longest_in};
 ghost use Rattle.store_image.specs.Header.{dict_of};
-ghost use Rattle.triple_store.specs.Entries.{triple_at};
+ghost use Rattle.triple_store.specs.Entries.{triple_at, HasEntry};
 ghost use Rattle.triple_table.specs.Table.{IsTable, IsFound, IsBelow, term_at, decode};
 ghost use Rattle.triple_table.specs.Keys.{order_of};
 ghost use Rattle.triple_store.specs.Asked.{admits, is_bound, takes, index_for};
@@ -152,6 +152,7 @@ impl<B: Blocks> Store<B> {
     /// a term came upon. `Blocks` comes only where a read failed.
     pub fn range_of(&mut self, alloc: Global, p: &Pattern) -> Result<Range, StoreFault>
         ensures kept { IsKept self.old self.new }
+        ensures index { IfOk result (λ r. order_of r.order ≡ index_of (pattern_of p.now) finmap.empty) }
         ensures within { IfOk result (IsWithin self.old) }
         ensures cost { HasRead self.old.device self.new.device (96 * (4 + (dict_of self.old.header).bytes / 4080) + 88) }
         ensures few_reads { (image : List ℕ) → Tells self.old.device.image image
@@ -228,6 +229,8 @@ impl<B: Blocks> Store<B> {
         ensures cost { HasRead self.old.device self.new.device 46 }
         ensures within { (place : ℕ) → result ≡ Ok (Some place) → place < range.now.end - range.now.first }
         ensures failed { result ≡ Err StoreFault.Blocks → Rose self.old.device.faults self.new.device.faults }
+        ensures there { (image : List ℕ) (place : ℕ) → Tells self.old.device.image image → result ≡ Ok (Some place)
+            → HasEntry self.old.header range.now.order t.now image (range.now.first + place) }
         ensures found { (terms : List Terms) (ids : List Ids) → IsShown self.old terms ids
             → IfOk result (IsFound (triples_at ids range.now) t.now) }
         ensures whole { (terms : List Terms) (ids : List Ids) (block : ℕ) → IsShown self.old terms ids

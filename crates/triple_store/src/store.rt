@@ -1,5 +1,5 @@
 //! An opened store.
-ghost use Rattle.std.specs.Prelude.{◌≡◌, ◌<◌, ◌≤◌, ◌↔◌, ◌⊎◌, ◌+◌, ◌*◌, ◌/◌, ℕ, List, length, slice_get, count_by, Some, None, Contains, IsTrue, Ok, Err, IfOk, IfErr, MatchResult};
+ghost use Rattle.std.specs.Prelude.{◌≡◌, ◌<◌, ◌≤◌, ◌↔◌, ◌⊎◌, ◌+◌, ◌*◌, ◌/◌, ℕ, List, length, slice_get, count_by, Some, None, Contains, IsTrue, Ok, Err, IfOk, IfErr, MatchResult, true};
 ghost use Rattle.std.specs.FinMap as finmap;
 ghost use Rattle.std.specs.Ordering.{is_lt};
 ghost use Rattle.term_core.specs.declared.term.Term.{Term as Terms};
@@ -13,12 +13,14 @@ ghost use Rattle.plan_tree.specs.Trace.{range as agreeing};
 ghost use Rattle.term_dict.specs.Layout.{Reads, term_at, longest_in};
 ghost use Rattle.term_dict.specs.Ranks.{IsRank, IsGap};
 ghost use Rattle.btree_scan.specs.Cuts.{IsRange};
+ghost use Rattle.btree_scan.specs.Entries.{entry_at};
 ghost use Rattle.triple_table.specs.Table.{IsTable, IsBelow, IsFound};
 ghost use Rattle.triple_table.specs.Keys.{order_of, key_of, keys_by};
 ghost use Rattle.store_image.specs.declared.header.Header.{Header as Headers};
-ghost use Rattle.store_image.specs.Header.{IsHeader, dict_of};
-ghost use Rattle.triple_store.specs.Stores.{View, IsOpened, IsKept, IsShown, IsBroken};
-ghost use Rattle.triple_store.specs.Entries.{ReadsEntry, triple_at};
+ghost use Rattle.store_image.specs.Holds.{Holds};
+ghost use Rattle.store_image.specs.Header.{IsHeader, dict_of, tree_of};
+ghost use Rattle.triple_store.specs.Stores.{View, IsOpened, IsKept, IsShown, IsBroken, IsStoreOf};
+ghost use Rattle.triple_store.specs.Entries.{ReadsEntry, HasEntry, triple_at};
 
 use crate::list::{key_in, named};
 use btree_scan::{Prefix, entry, lower_bound, range};
@@ -111,8 +113,9 @@ impl<B: Blocks> Store<B> {
     /// Opens the blocks as a store. The first block alone is read; where there is none, nothing is.
     ///
     /// `NotAStore` comes exactly where the first block is no header of a file of so many blocks,
-    /// also where there is no block at all. `Blocks` comes only where the read failed. `Damaged`
-    /// and `Memory` never come. The blocks are given back with each.
+    /// also where there is no block at all; so blocks that hold data are a store of these data.
+    /// `Blocks` comes only where the read failed. `Damaged` and `Memory` never come. The blocks are
+    /// given back with each.
     pub fn open(blocks: B) -> Result<Store<B>, Unopened<B>>
         ensures opened { IfOk result (λ s. HasRead (B.device blocks) s.device 1) }
         ensures given_back { IfErr result (λ u. HasRead (B.device blocks) (B.device u.blocks) 1) }
@@ -121,6 +124,8 @@ impl<B: Blocks> Store<B> {
         ensures not_a_store { (image : List ℕ) → Tells (B.device blocks).image image
             → IfErr result (λ u. u.fault ≡ OpenFault.NotAStore → (h : Headers) → IsHeader (block_at 0 image) (B.device blocks).count h → ⊥) }
         ensures failed { IfErr result (λ u. u.fault ≡ OpenFault.Blocks → Rose (B.device blocks).faults (B.device u.blocks).faults) }
+        ensures holds { (L : List Triples) (image : List ℕ) → Tells (B.device blocks).image image → Holds L image
+            → MatchResult result (λ s. IsStoreOf s L) (λ u. u.fault ≡ OpenFault.Blocks) }
         ensures causes { IfErr result (λ u. (u.fault ≡ OpenFault.NotAStore) ⊎ (u.fault ≡ OpenFault.Blocks)) }
         ensures none { (B.device blocks).count ≡ 0
             → MatchResult result (λ _. ⊥) (λ u. (u.fault ≡ OpenFault.NotAStore) × (B.device u.blocks ≡ B.device blocks)) }
@@ -192,6 +197,8 @@ impl<B: Blocks> Store<B> {
         ensures kept { IsKept self.old self.new }
         ensures cost { HasRead self.old.device self.new.device 46 }
         ensures failed { result ≡ Err ReadFault.Blocks → Rose self.old.device.faults self.new.device.faults }
+        ensures there { (image : List ℕ) → Tells self.old.device.image image → result ≡ Ok true
+            → (place : ℕ) × HasEntry self.old.header 0 t.now image place }
         ensures found { (terms : List Terms) (ids : List Ids) → IsShown self.old terms ids
             → IfOk result (λ b. IsTrue b ↔ Contains ids t.now) }
         ensures whole { (block : ℕ) → result ≡ Err (ReadFault.Damaged block) → ⊥ }
@@ -292,6 +299,8 @@ impl<B: Blocks> Store<B> {
         ensures kept { IsKept self.old self.new }
         ensures cost { HasRead self.old.device self.new.device 2 }
         ensures failed { result ≡ Err ReadFault.Blocks → Rose self.old.device.faults self.new.device.faults }
+        ensures read { (image : List ℕ) → Tells self.old.device.image image
+            → IfOk result (λ key. key ≡ entry_at (tree_of self.old.header order) place image) }
         ensures found { (terms : List Terms) (ids : List Ids) → IsShown self.old terms ids
             → IfOk result (λ key. slice_get (keys_by (order_of order) ids) place ≡ Some key) }
         ensures whole { (block : ℕ) → result ≡ Err (ReadFault.Damaged block) → ⊥ }
@@ -306,6 +315,8 @@ impl<B: Blocks> Store<B> {
         ensures kept { IsKept self.old self.new }
         ensures cost { HasRead self.old.device self.new.device 46 }
         ensures failed { result ≡ Err ReadFault.Blocks → Rose self.old.device.faults self.new.device.faults }
+        ensures there { (image : List ℕ) (place : ℕ) → Tells self.old.device.image image → result ≡ Ok (Some place)
+            → HasEntry self.old.header order t.now image place }
         ensures found { (terms : List Terms) (ids : List Ids) → IsShown self.old terms ids
             → IfOk result (IsFound (keys_by (order_of order) ids) (key_of (order_of order) t.now)) }
         ensures whole { (block : ℕ) → result ≡ Err (ReadFault.Damaged block) → ⊥ }
