@@ -5,7 +5,6 @@ use Rattle.std.specs.FinMap as finmap
 use Rattle.std.specs.List.Sorted.{IsStrictlySortedBy}
 use Rattle.std.specs.Ordering.{ordering_then}
 use Rattle.std.proofs.lemmas.Bool.{eq-eqb}
-use Rattle.std.proofs.lemmas.Bool.Decides.{nat_tests}
 use Rattle.std.proofs.lemmas.Option.{get_or_from_slice_get, slice_get-get_or}
 use Rattle.term_core.specs.declared.term.Term.{Term}
 use Rattle.term_core.specs.declared.term.Term.TheVariants.{Iri}
@@ -39,6 +38,7 @@ use Rattle.triple_store.specs.declared.range.Range.{Range}
 use Rattle.triple_store.specs.Asked.{wanted_of, admits, takes, index_for}
 use Rattle.triple_store.specs.Ranges.{IsRangeOf, triples_at}
 use Rattle.triple_store.specs.Stretches.{keys_at, IsStretch}
+use Rattle.triple_store.proofs.Places.{same_number}
 use Rattle.triple_store.proofs.Stretches.{length-stretch, from_In-stretch, In-stretch, rising-stretch}
 
 pub filled_term : (p : code_place.Place) (t : Term) → p ≡ place.Term t → filled finmap.empty (position_of p) ≡ Some t
@@ -56,16 +56,13 @@ same_tests true false h g = sym (h refl)
 same_tests false true h g = g refl
 same_tests false false h g = refl
 
-number_same : (j k : ℕ) → (j == k) ≡ true → j ≡ k
-number_same j k e = grind (arith, nat_tests)
-
 -- a term's rank is wanted where the term is
 wants_only : (terms : List Term) (t : Term) (id k : ℕ) → IsFound terms t (Some id) → k < length terms → (id == k) ≡ same_term t (term_at terms k)
 wants_only terms t id k f h =
     let there : slice_get terms id ≡ Some t = (f.at id).0 refl in
     let is : term_at terms id ≡ t = get_or_from_slice_get terms id t (Iri []) there in
     same_tests (id == k) (same_term t (term_at terms k))
-    (λ e. subst (λ u. same_term t u ≡ true) (sym is ∙ ap (term_at terms) (number_same id k e)) (term_itself t))
+    (λ e. subst (λ u. same_term t u ≡ true) (sym is ∙ ap (term_at terms) (same_number id k e)) (term_itself t))
     (λ e. let s : t ≡ term_at terms k = terms_same t (term_at terms k) e in
     let q : Some id ≡ Some k = (f.at k).1 (slice_get-get_or terms k (Iri []) h ∙ ap Some (sym s)) in
     let n : id ≡ k = cc in

@@ -129,7 +129,7 @@ all_true true true false e = cc
 all_true true false c e = cc
 all_true false b c e = cc
 
-same_number : (j k : ℕ) → (j == k) ≡ true → j ≡ k
+pub same_number : (j k : ℕ) → (j == k) ≡ true → j ≡ k
 same_number j k e = grind (arith, nat_tests)
 
 pub same_key : (a b : IdTriple) → (a.s == b.s && (a.p == b.p && a.o == b.o)) ≡ true → a ≡ b

@@ -36,13 +36,13 @@ few-stretch : {X : Type 0} (m n : ℕ) (xs : List X) → length (stretch m n xs)
 few-stretch {X = X} m n xs = omega (arith, length-take {A = X} n (drop m xs))
 
 -- a member of a stretch, by its place in the list
-pub record IsWithin {X : Type 0} (m n : ℕ) (xs : List X) (x : X) : Type 0 where
+pub record HasPlace {X : Type 0} (m n : ℕ) (xs : List X) (x : X) : Type 0 where
   pub place : ℕ
   pub from : m ≤ place
   pub before : place < m + n
   pub is : slice_get xs place ≡ Some x
 
-pub from_In-stretch : {X : Type 0} (m n : ℕ) (xs : List X) (x : X) → In (stretch m n xs) x → IsWithin m n xs x
+pub from_In-stretch : {X : Type 0} (m n : ℕ) (xs : List X) (x : X) → In (stretch m n xs) x → HasPlace m n xs x
 from_In-stretch m n xs x i =
     let w = slice_get-In (stretch m n xs) x i in
     let lt : w.0 < length (stretch m n xs) = slice_get_within (stretch m n xs) w.0 x w.1 in

@@ -29,8 +29,12 @@ use term_core::{IdTriple, Pattern, Place};
 /// up to `end`, the latter not counted, of the list of the order.
 #[derive(Clone, Copy, Debug, PartialEq, Eq)]
 pub struct Range {
+    /// The order of the list: 0 by subject, predicate and object, 1 by predicate, object and subject,
+    /// 2 by object, subject and predicate.
     pub order: u8,
+    /// The first place.
     pub first: u32,
+    /// The place behind the last.
     pub end: u32,
 }
 

@@ -30,6 +30,7 @@ use std::marker::Model;
 use store_image::Header;
 use term_core::{IdTriple, Memory, Pattern, Term};
 
+/// An opened store: its blocks, and the header that the first of them told.
 #[derive(Drop)]
 pub struct Store<B: Blocks> {
     blocks: B,
@@ -60,17 +61,24 @@ pub enum OpenFault {
 /// Blocks that were not opened, given back.
 #[derive(Drop)]
 pub struct Unopened<B: Blocks> {
+    /// Why they were not.
     pub fault: OpenFault,
+    /// The blocks, with the counts as they stand.
     pub blocks: B,
 }
 
 /// What the header of a store tells.
 #[derive(Clone, Copy, Debug, PartialEq, Eq)]
 pub struct Info {
+    /// 0: blocks without tags.
     pub format: u8,
+    /// The number of terms.
     pub terms: u32,
+    /// The number of triples.
     pub triples: u32,
+    /// The bytes of the longest record of a term.
     pub longest: u32,
+    /// The number of blocks, of 4,096 bytes each.
     pub blocks: u32,
 }
 
