@@ -78,14 +78,6 @@ pub record IsPart (D : List Triple) (pattern : Pattern) (store : View) (part : P
   pub counted : part.steps ≡ length (triples_at ids part.range) + 3
   pub is_of : IsOf D pattern (seen part terms ids)
 
--- the store holds the data, whose name its header tells
-pub record IsStoreOf (D : List Triple) (store : View) : Type 0 where
-  pub terms : List Term
-  pub ids : List IdTriple
-  pub table_is : IsTable D terms ids
-  pub shown : IsShown store terms ids
-  pub data_name : store.header.data_id ≡ data_id D
-
 -- the cursor stands in the part's range
 abbrev pub IsAt : Part → Cursor → Type 0
 IsAt part cursors.Fresh = Unit {0}

@@ -11,11 +11,11 @@ ghost use Rattle.sage_outside.specs.Causes.{Rose};
 ghost use Rattle.sparql_tree.specs.Bgp.{label_name, position_of};
 ghost use Rattle.plan_tree.specs.Trace.{put as put_name, bind_at, rows_of, steps};
 ghost use Rattle.triple_table.specs.Table.{IsBelow, term_at};
-ghost use Rattle.triple_store.specs.Stores.{View, IsKept, IsShown};
+ghost use Rattle.triple_store.specs.Stores.{View, IsKept, IsShown, IsStoreOf};
 ghost use Rattle.triple_store.specs.Ranges.{IsWithin as IsInStore};
 ghost use Rattle.pattern_page.specs.Part.{place_text, part_text, part_plan};
 ghost use Rattle.pattern_page.specs.StateReading.{state_of};
-ghost use Rattle.pattern_page.specs.PagesOf.{IsPart, IsSeen, IsStoreOf, IsAt, seen, entry_at, GivesAt, IsMore, cursor_state, saved_at, spelled_by, IsBehind, IsNamed, IsRead, IsPlaced, IsRefusal, MayRefuse, Loads, Starts, Gives, IsStretch, IsPageFrom, Answers};
+ghost use Rattle.pattern_page.specs.PagesOf.{IsPart, IsSeen, IsAt, seen, entry_at, GivesAt, IsMore, cursor_state, saved_at, spelled_by, IsBehind, IsNamed, IsRead, IsPlaced, IsRefusal, MayRefuse, Loads, Starts, Gives, IsStretch, IsPageFrom, Answers};
 
 use crate::state::{State, parse_state, push_state};
 use nt_text::push_term;
@@ -267,7 +267,7 @@ impl<'p> Part<'p> {
         ensures kept { IsKept store.old store.new }
         ensures refused { IfErr result (λ e. IsRefusal e store.old store.new) }
         ensures within { IfOk result (λ part. IsInStore store.old part.range) }
-        ensures part { (D : List Triple) → IsStoreOf D store.old → IfOk result (λ part. IsPart D pattern.now store.new part) }
+        ensures part { (D : List Triple) → IsStoreOf store.old D → IfOk result (λ part. IsPart D pattern.now store.new part) }
     {
         let range = store.range_of(alloc, pattern)?;
         let steps = range.len() as u64 + 3;

@@ -6,8 +6,9 @@ ghost use Rattle.nt_text.specs.Limits.{AreWithinLimits};
 ghost use Rattle.plan_tree.specs.Laws.{AreVariables};
 ghost use Rattle.plan_tree.specs.Pages.{AreQuanta};
 ghost use Rattle.store_image.specs.Holds.{Holds};
+ghost use Rattle.triple_store.specs.Stores.{IsStoreOf};
 ghost use Rattle.triple_store.specs.Ranges.{IsWithin as IsInStore};
-ghost use Rattle.pattern_page.specs.PagesOf.{IsPart, IsStoreOf, MayRefuse};
+ghost use Rattle.pattern_page.specs.PagesOf.{IsPart, MayRefuse};
 ghost use Rattle.sage.specs.Outcome.{AnswersOver};
 ghost use Rattle.sage.specs.Refusals.{Answered, AnswersOr, IsMemory, ReadsData, ReadsQuery};
 
@@ -96,7 +97,7 @@ fn answer_store<B: Blocks>(
     requires some { AreQuanta quanta.now }
     requires variables { AreVariables select.now.names }
     ensures refused { IfErr result (λ e. MayRefuse e store.old store.new) }
-    ensures answered { (triples : List Triples) → IsStoreOf triples store.old
+    ensures answered { (triples : List Triples) → IsStoreOf store.old triples
         → AnswersOr triples select.now.names select.now.pattern quanta.now result }
 {
     let part = Part::new(alloc, store, &select.pattern)?;
@@ -124,7 +125,7 @@ fn answer_opened<B: Blocks>(
     requires some { AreQuanta quanta.now }
     requires variables { AreVariables select.now.names }
     ensures refused { IfErr result.0 (λ e. MayRefuse e store (record { header = store.header; device = B.device result.1 })) }
-    ensures answered { (triples : List Triples) → IsStoreOf triples store
+    ensures answered { (triples : List Triples) → IsStoreOf store triples
         → AnswersOr triples select.now.names select.now.pattern quanta.now result.0 }
 {
     let mut store = store;

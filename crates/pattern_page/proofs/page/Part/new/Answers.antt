@@ -10,21 +10,21 @@ returns-in_err-range-clause-refused g c =
 
 pub returns-clause-part : goal.returns-clause-part
 returns-clause-part g c = λ D h.
-    let r = c.in_ok-range.ensures.found D h.terms h.ids h.table_is h.shown in
+    let r = c.in_ok-range.ensures.found D h.terms h.ids h.table h.shown in
     record {
       terms = h.terms;
       ids = h.ids;
       is_seen = record {
         shown = still_shown c.args.store.now c.range_of.new.self h.terms h.ids c.range_of.ensures.kept h.shown;
         count = r.count;
-        sound = record { few = h.table_is.few; below = r.below };
+        sound = record { few = h.table.few; below = r.below };
       };
       counted = omega (arith, r.count, c.len.ensures.count);
       is_of = record {
         same = refl;
         ids = h.ids;
-        table_is = h.table_is;
-        sound = record { few = h.table_is.few; below = r.below };
+        table_is = h.table;
+        sound = record { few = h.table.few; below = r.below };
         few = omega (arith, r.count, c.len.ensures.count, c.len.ensures.few);
         listing = r.triples;
         data_name = c.data_id-data_name.ensures ∙ ap (λ (header : Header). header.data_id) c.range_of.ensures.kept.header ∙ h.data_name;
