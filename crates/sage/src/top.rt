@@ -177,6 +177,8 @@ fn run_command<S: Shelf, O: Sink, E: Sink>(
             query,
             quanta,
         } => run_try(alloc, shelf, out, err, document, query, quanta.as_slice()),
+        Command::Build { .. } => refuse(err, b"sage: memory\n", 1),
+        Command::Info { .. } => refuse(err, b"sage: memory\n", 1),
     }
 }
 
