@@ -5,3 +5,4 @@ pub mod Ended
 pub mod Exact
 pub mod Answering
 pub mod Opened
+pub mod StoreFiles
