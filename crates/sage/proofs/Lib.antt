@@ -6,3 +6,4 @@ pub mod Exact
 pub mod Answering
 pub mod Opened
 pub mod StoreFiles
+pub mod StoreRuns

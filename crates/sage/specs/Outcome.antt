@@ -70,7 +70,7 @@ IsTold old new text before now = HasGot old new text ⊎ (Rose before now × Has
 -- the message of a status that names nothing
 abbrev pub message_of : ℕ → List ℕ
 message_of status =
-    if status == 1 then codes "sage: memory\n" else if status == 2 then codes "sage: words\n" else if status == 6 then codes "sage: query form\n" else codes "sage: output\n"
+    if status == 1 then codes "sage: memory\n" else if status == 2 then codes "sage: words\n" else if status == 5 then codes "sage: not a store\n" else if status == 6 then codes "sage: query form\n" else codes "sage: output\n"
 
 abbrev pub file_message : List ℕ → List ℕ
 file_message name = codes "sage: file " ++ (name ++ 10 ∷ [])

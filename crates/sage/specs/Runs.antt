@@ -11,7 +11,7 @@ use Rattle.sage.specs.Words.{command_of}
 use Rattle.sage.specs.Told.{Tells}
 use Rattle.sage.specs.Data.{IsData, IsRefused, data_message}
 use Rattle.sage.specs.Outcome.{IsTold, NoData, file_message}
-use Rattle.sage.specs.StoreFiles.{IsWritten, HasBegun, IsBuilt, IsBuiltUntold, HasHeader, IsToldOf, IsToldInPart}
+use Rattle.sage.specs.StoreFiles.{IsWritten, HasBegun, MayHaveBegun, IsBuilt, IsBuiltUntold, HasHeader, IsNoStore, IsToldOf, IsToldInPart}
 
 -- what a run reaches: the files that the shelf tells, what output and errors have got, and how often each has failed
 pub record World : Type 0 where
@@ -43,6 +43,10 @@ pub record IsStoreUnwritten (document_name store_name : List ℕ) (before after 
   pub begun : HasBegun document_name store_name before.files after.files
   pub message : Tell before after (file_message store_name)
 
+-- a file was not read or not written
+abbrev pub IsBuildUnfiled : List ℕ → List ℕ → World → World → Type 0
+IsBuildUnfiled document_name store_name before after = IsDocumentUnread document_name before after ⊎ IsStoreUnwritten document_name store_name before after
+
 -- the document is refused: over told files, this is the first cause; no file changed
 pub record IsDocumentRefused (document_name : List ℕ) (before after : World) : Type 0 where
   pub fault : DataFault
@@ -58,11 +62,11 @@ pub record IsBuildUntold (document_name store_name : List ℕ) (before after : W
 -- What `build` does, by its status.
 pub record IsBuild (document_name store_name : List ℕ) (before after : World) (status : ℕ) : Type 0 where
   pub done : status ≡ 0 → IsBuildDone document_name store_name before after
-  pub file : status ≡ 3 → IsDocumentUnread document_name before after ⊎ IsStoreUnwritten document_name store_name before after
+  pub file : status ≡ 3 → IsBuildUnfiled document_name store_name before after
   pub document : status ≡ 4 → IsDocumentRefused document_name before after
   pub output : status ≡ 9 → IsBuildUntold document_name store_name before after
   -- over told files nothing else than a front of the data's store file was written
-  pub kept : (status ≡ 0 → ⊥) → (status ≡ 9 → ⊥) → (after.files ≡ before.files) ⊎ HasBegun document_name store_name before.files after.files
+  pub kept : (status ≡ 0 → ⊥) → (status ≡ 9 → ⊥) → MayHaveBegun document_name store_name before.files after.files
   pub no_file : Lacks before.files document_name → (status ≡ 3) ⊎ (status ≡ 1)
   pub refuses_document : (document : List ℕ) → Tells before.files document_name document → NoData document → (Rose before.faults after.faults → ⊥) → (status ≡ 4) ⊎ (status ≡ 1)
   pub complete : (document : List ℕ) → Tells before.files document_name document → (triples : List Triple) → IsData document triples →
@@ -78,10 +82,6 @@ pub record IsStoreUnread (store_name : List ℕ) (before after : World) : Type 0
   pub cause : Lacks before.files store_name ⊎ Rose before.faults after.faults
   pub message : Tell before after (file_message store_name)
 
--- over told files, the first block of the file is no header of so many blocks
-abbrev pub IsNoStore : List ℕ → World → Type 0
-IsNoStore store_name before = (file : List ℕ) → Tells before.files store_name file → (h : Header) → HasHeader file h → ⊥
-
 -- the output failed once the header was read
 pub record IsInfoUntold (store_name : List ℕ) (before after : World) : Type 0 where
   pub rose : Rose before.out_faults after.out_faults
@@ -92,7 +92,7 @@ pub record IsInfo (store_name : List ℕ) (before after : World) (status : ℕ) 
   pub same : after.files ≡ before.files
   pub done : status ≡ 0 → IsInfoDone store_name before after
   pub file : status ≡ 3 → IsStoreUnread store_name before after
-  pub store : status ≡ 5 → IsNoStore store_name before
+  pub store : status ≡ 5 → IsNoStore store_name before.files
   pub output : status ≡ 9 → IsInfoUntold store_name before after
   pub no_file : Lacks before.files store_name → (status ≡ 3) ⊎ (status ≡ 1)
   pub refuses_store : (file : List ℕ) → Tells before.files store_name file → ((h : Header) → HasHeader file h → ⊥) →

@@ -87,6 +87,10 @@ pub record HasBegun (document_name store_name : List ℕ) (before after : Option
   pub written : IsWrittenInPart before after store_name image
   pub made : (document : List ℕ) → Tells before document_name document → (triples : List Triple) × IsData document triples × IsImage triples image
 
+-- no file changed, or the store file has begun to
+abbrev pub MayHaveBegun : List ℕ → List ℕ → Option Files → Option Files → Type 0
+MayHaveBegun document_name store_name before after = (after ≡ before) ⊎ HasBegun document_name store_name before after
+
 -- the store file was built, and the lines were put out
 pub record IsBuilt (document_name store_name : List ℕ) (before after : Option Files) (out_old out_new : Option (List ℕ)) : Type 0 where
   pub lines : List ℕ
@@ -115,6 +119,10 @@ WhyNotBuilt build.Output document_name store_name files_old files_new before now
 abbrev pub HasHeader : List ℕ → Header → Type 0
 HasHeader file h = IsHeader (block_at 0 (image_of file)) (block_count (length file)) h
 
+-- over told files, the file of that name has no header
+abbrev pub IsNoStore : List ℕ → Option Files → Type 0
+IsNoStore store_name files = (file : List ℕ) → Tells files store_name file → (h : Header) → HasHeader file h → ⊥
+
 -- the lines tell the header that a first block of so many blocks is
 pub record TellHeader (block : List ℕ) (count : ℕ) (lines : List ℕ) : Type 0 where
   pub header : Header
@@ -138,7 +146,6 @@ pub record IsToldInPart (file : List ℕ) (out_old out_new : Option (List ℕ)) 
 abbrev pub WhyNotTold : InfoFault → List ℕ → Option Files → ℕ → ℕ → Option (List ℕ) → Option (List ℕ) → ℕ → ℕ → Type 0
 WhyNotTold info.Memory store_name files before now out_old out_new out_before out_now = Unit {0}
 WhyNotTold info.File store_name files before now out_old out_new out_before out_now = Lacks files store_name ⊎ Rose before now
-WhyNotTold info.NotAStore store_name files before now out_old out_new out_before out_now =
-    (file : List ℕ) → Tells files store_name file → (h : Header) → HasHeader file h → ⊥
+WhyNotTold info.NotAStore store_name files before now out_old out_new out_before out_now = IsNoStore store_name files
 WhyNotTold info.Output store_name files before now out_old out_new out_before out_now =
     Rose out_before out_now × ((file : List ℕ) → Tells files store_name file → IsToldInPart file out_old out_new)
