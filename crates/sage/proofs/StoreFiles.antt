@@ -1,6 +1,6 @@
 -- Store files on a shelf: made, written in pieces, and told of.
-use Rattle.std.proofs.Common.{◌≡◌, ◌≤◌, ◌⊎◌, ℕ, ◌+◌, ◌-◌, ◌*◌, ◌^◌, ◌<◌, List, [], ◌++◌, length, take, drop, Bool, true, false, cond, Option, Some, None, Result, Ok, Err, OnErr, IfSome, refl, sym, ap, ◌∙◌, subst, inl, inr, arith}
-use Rattle.std.specs.Prelude.{min, IsSomeAnd}
+use Rattle.std.proofs.Common.{◌≡◌, ◌≤◌, ◌⊎◌, ℕ, ◌+◌, ◌-◌, ◌*◌, List, ◌++◌, length, take, drop, Bool, true, false, cond, Option, Some, None, Ok, Err, IfSome, refl, sym, ap, ◌∙◌, subst, inl, inr, arith}
+use Rattle.std.specs.Prelude.{IsSomeAnd}
 use Rattle.std.specs.Str.{bytes_eq}
 use Rattle.std.specs.FinMap.{get, insert, get-insert, same_map, slice_cmp-IsAntisymmetric, nat_cmp-IsAntisymmetric}
 use Rattle.std.proofs.lemmas.Cmp.{nat_list_cmp_total}
@@ -11,7 +11,7 @@ use Rattle.term_core.specs.declared.term.Triple.{Triple}
 use Rattle.sage_outside.specs.declared.shelf.ShelfFault.{ShelfFault}
 use Rattle.sage_outside.specs.Causes.{Rose}
 use Rattle.sage_outside.specs.Shelf.{Files, Lacks, Started, Grown}
-use Rattle.sage_outside.specs.Blocks.{Device, HasRead, Tells as TellsBytes, block_at, block_count, image_of}
+use Rattle.sage_outside.specs.Blocks.{Device, Tells as TellsBytes, block_at, block_count, image_of}
 use Rattle.sage_outside.specs.BlockLaws.{length_whole}
 use Rattle.store_image.specs.declared.header.Header.{Header}
 use Rattle.store_image.specs.Header.{IsHeader}
@@ -20,7 +20,7 @@ use Rattle.sage.specs.Told.{Tells}
 use Rattle.sage.specs.Data.{IsData, IsRefused}
 use Rattle.sage.specs.Outcome.{HasGot, HasGotFront}
 use Rattle.sage.specs.InfoLines.{lines_of}
-use Rattle.sage.specs.StoreFiles.{IsWritten, IsWrittenInPart, IsStoreFile, IsMade, ReadsTriples, WhyNotMade, WhyNotPut, WhyNotBuilt, HasHeader, TellHeader, IsToldOf, IsToldInPart, WhyNotTold}
+use Rattle.sage.specs.StoreFiles.{IsWritten, IsWrittenInPart, IsMade, ReadsTriples, WhyNotMade, WhyNotPut, WhyNotBuilt, HasHeader, TellHeader, IsToldOf, IsToldInPart, WhyNotTold}
 use Rattle.sage.specs.declared.store_file.BuildFault.{BuildFault}
 use Rattle.sage.specs.declared.store_file.BuildFault.TheVariants as build
 use Rattle.sage.specs.declared.store_file.InfoFault.{InfoFault}
@@ -57,9 +57,9 @@ pub grown_ok : (T : Type 0) (base files new : Option Files) (name before piece :
 grown_ok T None files new name before piece x written grown = subst (λ fs. Grown fs new name piece (Ok x)) written grown
 grown_ok T (Some m) files new name before piece x written grown =
     let has : IfSome (get (insert m name before) name) (λ bytes. new ≡ Some (insert (insert m name before) name (bytes ++ piece))) =
-        subst (λ fs. Grown fs new name piece (Ok x)) written grown in
+    subst (λ fs. Grown fs new name piece (Ok x)) written grown in
     let behind : new ≡ Some (insert (insert m name before) name (before ++ piece)) =
-        subst (λ o. IfSome o (λ bytes. new ≡ Some (insert (insert m name before) name (bytes ++ piece)))) (there_after m name before) has in
+    subst (λ o. IfSome o (λ bytes. new ≡ Some (insert (insert m name before) name (bytes ++ piece)))) (there_after m name before) has in
     behind ∙ ap Some (twice_after m name before (before ++ piece))
 
 -- up to the end of a piece
@@ -83,13 +83,13 @@ piece_in_part T (Some m) files new name bytes done k e written grown =
     let piece = take k (drop done bytes) in
     let F = insert m name (take done bytes) in
     let has : (new ≡ Some F) ⊎ ((n : ℕ) × (n ≤ length piece) × IsSomeAnd (get F name) (λ old. new ≡ Some (insert F name (old ++ take n piece)))) =
-        subst (λ fs. Grown {T = T} fs new name piece (Err e)) written grown in
+    subst (λ fs. Grown {T = T} fs new name piece (Err e)) written grown in
     (elim has [
       | inl same ↦ inr (done, same)
       | inr some ↦ inr (
         done + some.0,
         subst (λ o. IsSomeAnd o (λ old. new ≡ Some (insert F name (old ++ take some.0 piece)))) (there_after m name (take done bytes)) some.2
-        ∙ ap Some (twice_after m name (take done bytes) (take done bytes ++ take some.0 piece) ∙ ap (insert m name) (front_of_piece bytes done k some.0 some.1)),
+            ∙ ap Some (twice_after m name (take done bytes) (take done bytes ++ take some.0 piece) ∙ ap (insert m name) (front_of_piece bytes done k some.0 some.1)),
       )
     ])
 

@@ -1,10 +1,10 @@
 -- Each status of `build` and of `info` comes exactly where it must: from the causes of all the others.
-use Rattle.std.proofs.Common.{◌≡◌, ◌⊎◌, ℕ, List, take, Option, Some, None, inl, inr, sym, subst}
+use Rattle.std.proofs.Common.{◌≡◌, ◌⊎◌, ℕ, List, take, Some, inl, inr}
 use Rattle.sage_outside.specs.Causes.{Rose}
-use Rattle.sage_outside.specs.Shelf.{Files, Lacks}
+use Rattle.sage_outside.specs.Shelf.{Lacks}
 use Rattle.sage.specs.Told.{Tells}
 use Rattle.sage.specs.declared.words.Command.TheVariants.{Build}
-use Rattle.sage.specs.StoreFiles.{IsWritten, IsWrittenInPart, HasBegun, MayHaveBegun, IsNoStore}
+use Rattle.sage.specs.StoreFiles.{MayHaveBegun, IsNoStore}
 use Rattle.sage.specs.Runs.{World, IsBuildDone, IsBuildUnfiled, IsDocumentRefused, IsBuildUntold, IsBuild, IsInfoDone, IsStoreUnread, IsInfoUntold, IsInfo, KeepsFiles}
 use Rattle.sage.proofs.Limits.{refused_none}
 use Rattle.sage.proofs.Exact.{there}

@@ -44,9 +44,9 @@ fn number_lines<B: Blocks>(alloc: Global, store: &Store<B>) -> Result<String, Me
         blocks,
         ..
     } = store.info();
-    Ok(
-        format!(in alloc; "format 0\nterms {terms}\ntriples {triples}\nlongest {longest}\nblocks {blocks}\n")?,
-    )
+    Ok(format!(in alloc;
+        "format 0\nterms {terms}\ntriples {triples}\nlongest {longest}\nblocks {blocks}\n"
+    )?)
 }
 
 /// The six lines that tell what the header of a store has. Nothing is read.

@@ -279,11 +279,7 @@ pub fn build_store<S: Shelf, O: Sink>(
 }
 
 /// The lines of the header of a store file. The file is closed whatever came.
-fn file_lines<S: Shelf>(
-    alloc: Global,
-    shelf: &mut S,
-    name: &str,
-) -> Result<Vec<u8>, InfoFault>
+fn file_lines<S: Shelf>(alloc: Global, shelf: &mut S, name: &str) -> Result<Vec<u8>, InfoFault>
     ensures same { S.files shelf.new ≡ S.files shelf.old }
     ensures later { S.faults shelf.old ≤ S.faults shelf.new }
     ensures told { (file : List ℕ) → Tells (S.files shelf.old) name.now file

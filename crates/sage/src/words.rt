@@ -27,9 +27,14 @@ pub enum Command {
         quanta: Items<u32>,
     },
     /// Makes the store file of a document, both named by words.
-    Build { document: Text, store: Text },
+    Build {
+        document: Text,
+        store: Text,
+    },
     /// Tells what the header of the named store file has.
-    Info { store: Text },
+    Info {
+        store: Text,
+    },
 }
 
 /// Why the words give no command.

@@ -8,8 +8,7 @@ use std::process::Abort;
 /// What the store file is before a test builds it.
 const OLD: &[u8] = b"what was there";
 
-const TWO: &[u8] =
-    b"<http://e/a> <http://e/p> <http://e/b> .\n<http://e/a> <http://e/p> \"x\" .\n";
+const TWO: &[u8] = b"<http://e/a> <http://e/p> <http://e/b> .\n<http://e/a> <http://e/p> \"x\" .\n";
 
 /// The first line of `TWO` three times.
 const REPEATED: &[u8] =
@@ -23,10 +22,12 @@ const EXCHANGED: &[u8] =
 /// 39 bytes of xsd:string. The name is what `sha256sum` makes of `TWO`, whose lines stand in the order
 /// of their terms. Of the six blocks one is the header, one has the places, one the records, and each
 /// list has one.
-const TWO_LINES: &str = "format 0\nterms 4\ntriples 2\nlongest 49\nblocks 6\ndata bdb4eff0abe7b6c557b58abc5a245c322ed644cb8e03e57cc80d91e390f121b4\n";
+const TWO_LINES: &str =
+    "format 0\nterms 4\ntriples 2\nlongest 49\nblocks 6\ndata bdb4eff0abe7b6c557b58abc5a245c322ed644cb8e03e57cc80d91e390f121b4\n";
 
 /// The name is SHA-256 of the empty text (FIPS 180-4, examples).
-const NO_LINES: &str = "format 0\nterms 0\ntriples 0\nlongest 0\nblocks 2\ndata e3b0c44298fc1c149afbf4c8996fb92427ae41e4649b934ca495991b7852b855\n";
+const NO_LINES: &str =
+    "format 0\nterms 0\ntriples 0\nlongest 0\nblocks 2\ndata e3b0c44298fc1c149afbf4c8996fb92427ae41e4649b934ca495991b7852b855\n";
 
 /// A shelf with the files `d.nt` and `s.sage`. Its calls whose numbers are among `fails` fail.
 fn shelf_with(
@@ -44,12 +45,7 @@ fn store_of(alloc: Global, shelf: &mut MemShelf) -> Result<Vec<u8>, Unready> {
 }
 
 /// The store file that is built of a document. Asserts that the lines are put out.
-fn built(
-    rt: &impl Abort,
-    alloc: Global,
-    document: &[u8],
-    lines: &str,
-) -> Result<Vec<u8>, Unready> {
+fn built(rt: &impl Abort, alloc: Global, document: &[u8], lines: &str) -> Result<Vec<u8>, Unready> {
     let mut shelf = shelf_with(alloc, document, OLD, &[])?;
     let outcome = run_on(alloc, &mut shelf, &["build", "d.nt", "s.sage"], &[])?;
     expect(rt, &outcome, 0, lines, "");

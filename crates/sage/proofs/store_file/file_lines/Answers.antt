@@ -1,4 +1,4 @@
-use Rattle.std.proofs.Common.{length, IfOk, sym, subst}
+use Rattle.std.proofs.Common.{IfOk, sym, subst}
 use Rattle.sage_outside.specs.Blocks.{block_at, image_of}
 use Rattle.store_image.specs.Header.{IsHeader}
 use Rattle.sage.specs.StoreFiles.{TellHeader}

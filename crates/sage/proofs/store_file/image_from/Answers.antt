@@ -1,4 +1,4 @@
-use Rattle.std.proofs.Common.{sym, subst}
+use Rattle.std.proofs.Common.{subst}
 use Rattle.std.specs.Prelude.{flat_map}
 use Rattle.term_core.specs.Bags.{In}
 use Rattle.sparql_tree.specs.Bgp.{parts}
