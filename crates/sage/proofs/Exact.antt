@@ -7,7 +7,7 @@ use Rattle.sage.proofs.Limits.{refused_none}
 use Rattle.sage.specs.Outcome.{TellsBoth, IsTryDone, WhyTryFile, WhyTryData, WhyTryQuery, WhyTryOutput, RefusesData, RefusesQuery, IsComplete}
 
 -- a file that the shelf tells is not lacking
-there : (files : Option Files) (name file : List ℕ) → Tells files name file → Lacks files name → ⊥
+pub there : (files : Option Files) (name file : List ℕ) → Tells files name file → Lacks files name → ⊥
 there files name file tells lacks = let none : Lacks (Some tells.all) name = subst (λ fs. Lacks fs name) tells.told lacks in cc (none, tells.has)
 
 named_there : (files : Option Files) (document_name query_name document query name : List ℕ) → TellsBoth files document_name query_name document query → (name ≡ document_name) ⊎ (name ≡ query_name) → Lacks files name → ⊥

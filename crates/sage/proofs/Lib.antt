@@ -5,3 +5,5 @@ pub mod Ended
 pub mod Exact
 pub mod Answering
 pub mod Opened
+pub mod StoreFiles
+pub mod StoreRuns

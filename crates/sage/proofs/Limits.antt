@@ -24,7 +24,7 @@ kept n file short = within (n + 1) file (omega (arith, short, length-take (n + 1
 kept_whole : (n : ℕ) (file : List ℕ) → length file ≤ n → take (n + 1) file ≡ file
 kept_whole n file short = within (n + 1) file (omega (arith, short))
 
-data_back : (file : List ℕ) (triples : List Triple) → IsData (take 268435457 file) triples → IsData file triples
+pub data_back : (file : List ℕ) (triples : List Triple) → IsData (take 268435457 file) triples → IsData file triples
 data_back file triples h = subst (λ bytes. IsData bytes triples) (kept 268435456 file h.limits.bytes_fit) h
 
 query_back : (text : List ℕ) (names : List Name) (pattern : Pattern) → IsQuery (take 262145 text) names pattern → IsQuery text names pattern

@@ -4,3 +4,6 @@ pub mod Files
 pub mod Data
 pub mod Outcome
 pub mod Refusals
+pub mod InfoLines
+pub mod StoreFiles
+pub mod Runs

@@ -10,7 +10,7 @@ use Rattle.sparql_tree.specs.Algebra.{Bgp}
 use Rattle.sparql_tree.specs.Answer.{IsAnswer}
 use Rattle.plan_tree.specs.Pages.{Page, IsRun, walked, rows_in}
 use Rattle.sage.specs.declared.words.Command.{Command}
-use Rattle.sage.specs.declared.words.Command.TheVariants.{Try}
+use Rattle.sage.specs.declared.words.Command.TheVariants.{Try, Build, Info}
 use Rattle.sage.specs.Words.{command_of}
 use Rattle.sage.specs.Told.{Tells}
 use Rattle.nt_text.specs.declared.fault.DataFault.{DataFault}
@@ -70,7 +70,7 @@ IsTold old new text before now = HasGot old new text ⊎ (Rose before now × Has
 -- the message of a status that names nothing
 abbrev pub message_of : ℕ → List ℕ
 message_of status =
-    if status == 1 then codes "sage: memory\n" else if status == 2 then codes "sage: words\n" else if status == 6 then codes "sage: query form\n" else codes "sage: output\n"
+    if status == 1 then codes "sage: memory\n" else if status == 2 then codes "sage: words\n" else if status == 5 then codes "sage: not a store\n" else if status == 6 then codes "sage: query form\n" else codes "sage: output\n"
 
 abbrev pub file_message : List ℕ → List ℕ
 file_message name = codes "sage: file " ++ (name ++ 10 ∷ [])
@@ -123,6 +123,8 @@ pub record IsComplete (document_name query_name : List ℕ) (files : Option File
 -- what holds of the names and the quanta of a command
 abbrev pub OfCommand : Command → (List ℕ → List ℕ → List ℕ → Type 0) → Type 0
 OfCommand (Try document_name query_name quanta) P = P document_name query_name quanta
+OfCommand (Build document_name store_name) P = Unit {0}
+OfCommand (Info store_name) P = Unit {0}
 
 -- what holds of the names and the quanta of the command that the words spell
 abbrev pub UnderCommand : List (List ℕ) → (List ℕ → List ℕ → List ℕ → Type 0) → Type 0

@@ -5,7 +5,7 @@ use Rattle.std.specs.Str.{bytes_eq}
 use Rattle.term_core.specs.Characters.{is_digit}
 use Rattle.plan_tree.specs.Pages.{AreQuanta}
 use Rattle.sage.specs.declared.words.Command.{Command}
-use Rattle.sage.specs.declared.words.Command.TheVariants.{Try}
+use Rattle.sage.specs.declared.words.Command.TheVariants.{Try, Build, Info}
 use Rattle.sage.specs.declared.words.WordsFault.{WordsFault}
 use Rattle.sage.specs.declared.words.WordsFault.TheVariants as faults
 
@@ -58,13 +58,26 @@ quanta_from (option ∷ []) = None
 quanta_from (option ∷ value ∷ []) = if bytes_eq option (codes "--quanta") then quanta_of value else None
 quanta_from (option ∷ value ∷ more ∷ options) = None
 
--- The command that the words spell: `try`, the names of the document and of the query, then the options.
+-- `try`: the names of the document and of the query, then the options
+abbrev pub try_of : List ℕ → List ℕ → List (List ℕ) → Option Command
+try_of document query options = if not (is_empty document) && not (is_empty query) then try_with document query (quanta_from options) else None
+
+-- `build`: the names of the document and of the store file, and no option
+abbrev pub build_of : List ℕ → List ℕ → List (List ℕ) → Option Command
+build_of document store [] = if not (is_empty document) && not (is_empty store) then Some (Build document store) else None
+build_of document store (option ∷ options) = None
+
+-- `info`: the name of the store file
+abbrev pub info_of : List ℕ → Option Command
+info_of store = if not (is_empty store) then Some (Info store) else None
+
+-- The command that the words spell: its name, the names of its files, then the options.
 abbrev pub command_of : List (List ℕ) → Option Command
 command_of [] = None
 command_of (word ∷ []) = None
-command_of (word ∷ document ∷ []) = None
-command_of (word ∷ document ∷ query ∷ options) =
-    if bytes_eq word (codes "try") && (not (is_empty document) && not (is_empty query)) then try_with document query (quanta_from options) else None
+command_of (word ∷ store ∷ []) = if bytes_eq word (codes "info") then info_of store else None
+command_of (word ∷ document ∷ name ∷ options) =
+    if bytes_eq word (codes "try") then try_of document name options else (if bytes_eq word (codes "build") then build_of document name options else None)
 
 -- what reading words answers: what they spell, or that it is nothing; memory can run out only where it is something
 abbrev pub Spells : {T : Type 0} → Result T WordsFault → Option T → Type 0
@@ -81,3 +94,5 @@ pub record AreWithinLimits (quanta : List ℕ) : Type 0 where
 -- the quanta of a command are within their limits
 abbrev pub HasQuanta : Command → Type 0
 HasQuanta (Try document query quanta) = AreWithinLimits quanta
+HasQuanta (Build document store) = Unit {0}
+HasQuanta (Info store) = Unit {0}

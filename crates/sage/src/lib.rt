@@ -3,6 +3,8 @@
 
 mod answer;
 mod file;
+mod info_lines;
+mod store_file;
 mod top;
 mod words;
 mod work;

@@ -2,7 +2,7 @@
 ghost use Rattle.std.specs.Prelude.{◌≡◌, ◌<◌, [], ◌∷◌, length, Some, IfOk, IfSome, option_map};
 ghost use Rattle.std.specs.List.{filter_map};
 ghost use Rattle.term_core.specs.Characters.{is_digit};
-ghost use Rattle.sage.specs.Words.{value_on, quantum_of, pieces_of, pieces_left, are_quanta, quanta_of, quanta_from, command_of, Spells, AreWithinLimits, HasQuanta};
+ghost use Rattle.sage.specs.Words.{value_on, quantum_of, pieces_of, pieces_left, are_quanta, quanta_of, quanta_from, try_of, build_of, info_of, command_of, Spells, AreWithinLimits, HasQuanta};
 
 use std::alloc::Global;
 use term_core::{Items, Memory, Text};
@@ -25,6 +25,15 @@ pub enum Command {
         document: Text,
         query: Text,
         quanta: Items<u32>,
+    },
+    /// Makes the store file of a document, both named by words.
+    Build {
+        document: Text,
+        store: Text,
+    },
+    /// Tells what the header of the named store file has.
+    Info {
+        store: Text,
     },
 }
 
@@ -181,21 +190,89 @@ fn make_try(
     })
 }
 
+/// Reads the words behind `try`: two names and the options.
+fn read_try(
+    alloc: Global,
+    document: &Text,
+    query: &Text,
+    options: &[Text],
+) -> Result<Command, WordsFault>
+    ensures exact { Spells result (try_of document.now query.now options.now) }
+    ensures range { IfOk result HasQuanta }
+{
+    if !document.bytes().is_empty() && !query.bytes().is_empty() {
+        let quanta = quanta_among(alloc, options)?;
+        make_try(alloc, document, query, quanta)
+    } else {
+        Err(WordsFault::Words)
+    }
+}
+
+fn make_build(alloc: Global, document: &Text, store: &Text) -> Result<Command, WordsFault>
+    ensures exact { Spells result (Some (Command.Build document.now store.now)) }
+    ensures range { IfOk result HasQuanta }
+{
+    let document = document.copy(alloc)?;
+    let store = store.copy(alloc)?;
+    Ok(Command::Build { document, store })
+}
+
+/// Reads the words behind `build`: two names, and no option.
+fn read_build(
+    alloc: Global,
+    document: &Text,
+    store: &Text,
+    options: &[Text],
+) -> Result<Command, WordsFault>
+    ensures exact { Spells result (build_of document.now store.now options.now) }
+    ensures range { IfOk result HasQuanta }
+{
+    match options {
+        [] => {
+            if !document.bytes().is_empty() && !store.bytes().is_empty() {
+                make_build(alloc, document, store)
+            } else {
+                Err(WordsFault::Words)
+            }
+        }
+        [_, ..] => Err(WordsFault::Words),
+    }
+}
+
+/// Reads the word behind `info`: a name.
+fn read_info(alloc: Global, store: &Text) -> Result<Command, WordsFault>
+    ensures exact { Spells result (info_of store.now) }
+    ensures range { IfOk result HasQuanta }
+{
+    if store.bytes().is_empty() {
+        return Err(WordsFault::Words);
+    }
+    let store = store.copy(alloc)?;
+    Ok(Command::Info { store })
+}
+
 /// Reads the words that follow the program's name.
 ///
 /// `Words` comes exactly where they spell no command: a word is missing, unknown, empty where a
-/// name is wanted, or repeated, or the quanta are not from 1 to 64 numbers in plain decimal digits, each
-/// from 1 to 10,000, with a comma between each two.
+/// name is wanted, repeated or one too many, or the quanta are not from 1 to 64 numbers in plain
+/// decimal digits, each from 1 to 10,000, with a comma between each two.
 pub fn read_words(alloc: Global, words: &[Text]) -> Result<Command, WordsFault>
     ensures exact { Spells result (command_of words.now) }
     ensures range { IfOk result HasQuanta }
 {
     match words {
-        [word, document, query, options @ ..] => {
-            let is_try = word.bytes() == b"try".as_slice();
-            if is_try && !document.bytes().is_empty() && !query.bytes().is_empty() {
-                let quanta = quanta_among(alloc, options)?;
-                make_try(alloc, document, query, quanta)
+        [word, store] => {
+            if word.bytes() == b"info".as_slice() {
+                read_info(alloc, store)
+            } else {
+                Err(WordsFault::Words)
+            }
+        }
+        [word, document, name, options @ ..] => {
+            if word.bytes() == b"try".as_slice() {
+                read_try(alloc, document, name, options)
+            } else if word.bytes() == b"build".as_slice() {
+                read_build(alloc, document, name, options)
             } else {
                 Err(WordsFault::Words)
             }

@@ -6,6 +6,8 @@ mod document_tests;
 #[cfg(test)]
 mod query_tests;
 #[cfg(test)]
+mod store_tests;
+#[cfg(test)]
 mod tests;
 mod usage;
 #[cfg(test)]

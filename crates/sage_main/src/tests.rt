@@ -1,5 +1,5 @@
 // The top call over files in memory: the worked examples of the documentation.
-use sage::run;
+use sage::{FileFault, run};
 use sage_outside::{MemFile, MemShelf, MemSink, NoDoor, NoLink};
 use std::alloc::{AllocError, Global};
 use std::process::Abort;
@@ -9,6 +9,7 @@ use term_core::{Items, Memory, Text, TextFault};
 #[derive(Debug, Drop)]
 pub enum Unready {
     Words,
+    File,
     Memory,
 }
 
@@ -27,6 +28,15 @@ impl From<AllocError> for Unready {
 impl From<TextFault> for Unready {
     fn from(_: TextFault) -> Self {
         Unready::Words
+    }
+}
+
+impl From<FileFault> for Unready {
+    fn from(fault: FileFault) -> Self {
+        match fault {
+            FileFault::File => Unready::File,
+            FileFault::Memory => Unready::Memory,
+        }
     }
 }
 
@@ -53,6 +63,45 @@ fn file_of(alloc: Global, name: &str, bytes: &[u8]) -> Result<MemFile, Unready> 
     })
 }
 
+/// Runs the words over a shelf. The calls of the output whose numbers are among `fails` fail.
+pub(crate) fn run_on(
+    alloc: Global,
+    shelf: &mut MemShelf,
+    words: &[&str],
+    fails: &[u64],
+) -> Result<Outcome, Unready> {
+    let words = words_of(alloc, words)?;
+    let mut out = MemSink::new(alloc, Vec::from_slice(alloc, fails)?);
+    let mut err = MemSink::new(alloc, Vec::new(alloc));
+    let status = run(
+        alloc,
+        words.as_slice(),
+        shelf,
+        &mut NoLink::new(),
+        &mut NoDoor::new(),
+        &mut out,
+        &mut err,
+    );
+    Ok(Outcome { status, out, err })
+}
+
+/// A shelf with two files. Its calls whose numbers are among `fails` fail.
+pub(crate) fn shelf_of(
+    alloc: Global,
+    first: (&str, &[u8]),
+    second: (&str, &[u8]),
+    fails: &[u64],
+) -> Result<MemShelf, Unready> {
+    let mut files = Vec::new(alloc);
+    files
+        .push(file_of(alloc, first.0, first.1)?)
+        .map_err(AllocError::from)?;
+    files
+        .push(file_of(alloc, second.0, second.1)?)
+        .map_err(AllocError::from)?;
+    Ok(MemShelf::new(alloc, files, Vec::from_slice(alloc, fails)?))
+}
+
 /// Runs the words over a shelf with the files `d.nt` and `q.rq`. The calls of the output whose
 /// numbers are among `fails` fail.
 pub(crate) fn run_over(
@@ -62,27 +111,8 @@ pub(crate) fn run_over(
     words: &[&str],
     fails: &[u64],
 ) -> Result<Outcome, Unready> {
-    let words = words_of(alloc, words)?;
-    let mut files = Vec::new(alloc);
-    files
-        .push(file_of(alloc, "d.nt", document)?)
-        .map_err(AllocError::from)?;
-    files
-        .push(file_of(alloc, "q.rq", query)?)
-        .map_err(AllocError::from)?;
-    let mut shelf = MemShelf::new(alloc, files, Vec::new(alloc));
-    let mut out = MemSink::new(alloc, Vec::from_slice(alloc, fails)?);
-    let mut err = MemSink::new(alloc, Vec::new(alloc));
-    let status = run(
-        alloc,
-        words.as_slice(),
-        &mut shelf,
-        &mut NoLink::new(),
-        &mut NoDoor::new(),
-        &mut out,
-        &mut err,
-    );
-    Ok(Outcome { status, out, err })
+    let mut shelf = shelf_of(alloc, ("d.nt", document), ("q.rq", query), &[])?;
+    run_on(alloc, &mut shelf, words, fails)
 }
 
 /// Asserts what a call answers and writes.
