@@ -1,5 +1,5 @@
 -- A store file in memory, opened.
-use Rattle.std.proofs.Common.{◌≡◌, ℕ, ◌+◌, ◌*◌, ◌^◌, ◌<◌, ◌≤◌, suc, List, [], ◌∷◌, ◌++◌, length, take, Some, Result, Ok, Err, IfErr, refl, sym, ap, ◌∙◌, subst, inl, inr, arith}
+use Rattle.std.proofs.Common.{◌≡◌, ℕ, ◌+◌, ◌*◌, ◌^◌, ◌<◌, ◌≤◌, ◌⊎◌, suc, List, [], ◌∷◌, ◌++◌, length, take, Some, Result, Ok, Err, IfErr, refl, sym, ap, ◌∙◌, subst, inl, inr, arith}
 use Rattle.std.specs.Result.{IsErr, IsErrAnd}
 use Rattle.std.specs.Prelude.{flat_map, All, replicate}
 use Rattle.std.proofs.Math.Seq.{take-append_seam}
@@ -13,9 +13,14 @@ use Rattle.sparql_tree.specs.Bgp.{parts}
 use Rattle.nt_text.specs.Limits.{HasShortTerms}
 use Rattle.sage_outside.specs.Causes.{Rose}
 use Rattle.sage_outside.specs.declared.fault.StoreFault.TheVariants as store_faults
-use Rattle.sage_outside.specs.Blocks.{Device, Tells, block_count, image_of}
+use Rattle.sage_outside.specs.Blocks.{Device, Tells, block_at, block_count, image_of}
 use Rattle.store_image.specs.declared.header.Header.{Header}
+use Rattle.store_image.specs.Header.{IsHeader}
 use Rattle.store_image.specs.Holds.{Holds}
+use Rattle.sage_outside.specs.Held.{device_of}
+use Rattle.sage_outside.specs.BlockLaws.{whole_image}
+use Rattle.triple_store.specs.declared.store.OpenFault.{OpenFault}
+use Rattle.triple_store.specs.declared.store.OpenFault.TheVariants as open_faults
 use Rattle.triple_store.specs.Stores.{View, IsKept, IsStoreOf}
 use Rattle.pattern_page.specs.declared.page.PageFault.{PageFault}
 use Rattle.pattern_page.specs.declared.page.PageFault.TheVariants as faults
@@ -33,6 +38,13 @@ pub image_whole : (bytes : List ℕ) (n : ℕ) → length bytes ≡ 4096 * n →
 image_whole bytes n e f =
     ap (λ k. take k (bytes ++ replicate (4096 * block_count (length bytes)) 0)) (count_whole n (length bytes) e f)
     ∙ take-append_seam bytes (replicate (4096 * block_count (length bytes)) 0)
+
+-- a block is one header
+pub one_header : (block : List ℕ) (n m : ℕ) (h k : Header) → IsHeader block n h → IsHeader block m k → h ≡ k
+one_header block n m h k a b =
+    let blocks = a.blocks ∙ sym b.blocks in let terms = a.terms ∙ sym b.terms in let triples = a.triples ∙ sym b.triples in
+    let longest = a.longest ∙ sym b.longest in let name = a.data_name ∙ sym b.data_name in
+    λ i. record { blocks = blocks i; terms = terms i; triples = triples i; longest = longest i; data_id = name i }
 
 -- the image that a store in memory tells
 pub told_whole : (L : List Triple) (bytes : List ℕ) (holds : Holds L bytes) (device : Device) → device.image ≡ Some (image_of bytes) → Tells device.image bytes
@@ -79,3 +91,16 @@ short_terms (triple ∷ triples) all t (inl e) = let h : HasShortTerms triple = 
 short_terms (triple ∷ triples) all t (inr (inl e)) = let h : HasShortTerms triple = all 0 triple (omega arith) in subst (λ u. size_of u ≤ 262144) e h.predicate
 short_terms (triple ∷ triples) all t (inr (inr (inl e))) = let h : HasShortTerms triple = all 0 triple (omega arith) in subst (λ u. size_of u ≤ 262144) e h.object
 short_terms (triple ∷ triples) all t (inr (inr (inr i))) = short_terms triples (λ k d h. all (suc k) d (omega (arith, h))) t i
+
+-- a store file in memory that holds data is a store, and its blocks never fail
+pub not_refused : (L : List Triple) (bytes held : List ℕ) (fault : OpenFault) (device now : Device) → Holds L bytes → device.image ≡ Some (image_of bytes)
+    → device ≡ device_of held 0 device.reads → now.faults ≡ 0
+    → (fault ≡ open_faults.NotAStore) ⊎ (fault ≡ open_faults.Blocks)
+    → ((image : List ℕ) → Tells device.image image → fault ≡ open_faults.NotAStore → (h : Header) → IsHeader (block_at 0 image) device.count h → ⊥)
+    → (fault ≡ open_faults.Blocks → Rose device.faults now.faults) → ⊥
+not_refused L bytes held fault device now holds e d none (inl is) refused failed =
+    let told = told_whole L bytes holds device e in
+    let size : length bytes ≡ 4096 * block_count (length held) = whole_image held bytes (record { told = sym (ap (λ (x : Device). x.image) d) ∙ told.told }) in
+    let count : holds.header.blocks ≡ device.count = omega (arith, size, holds.whole, ap (λ (x : Device). x.count) d) in
+    refused bytes told is holds.header (subst (λ n. IsHeader (block_at 0 bytes) n holds.header) count holds.is_header)
+not_refused L bytes held fault device now holds e d none (inr is) refused failed = absurd (omega (arith, failed is, none))
