@@ -26,6 +26,7 @@ module _ (document_name store_name : List ℕ) (before after : World) (status : 
 
   pub is_build : IsBuild document_name store_name before after status
   is_build = record {
+    statuses = statuses;
     done = done;
     file = file;
     document = document_refused;
@@ -78,6 +79,7 @@ module _ (store_name : List ℕ) (before after : World) (status : ℕ)
 
   pub is_info : IsInfo store_name before after status
   is_info = record {
+    statuses = statuses;
     same = same;
     done = done;
     file = file;

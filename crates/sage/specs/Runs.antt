@@ -61,6 +61,7 @@ pub record IsBuildUntold (document_name store_name : List ℕ) (before after : W
 
 -- What `build` does, by its status.
 pub record IsBuild (document_name store_name : List ℕ) (before after : World) (status : ℕ) : Type 0 where
+  pub statuses : (status ≡ 0) ⊎ (status ≡ 1) ⊎ (status ≡ 3) ⊎ (status ≡ 4) ⊎ (status ≡ 9)
   pub done : status ≡ 0 → IsBuildDone document_name store_name before after
   pub file : status ≡ 3 → IsBuildUnfiled document_name store_name before after
   pub document : status ≡ 4 → IsDocumentRefused document_name before after
@@ -89,6 +90,7 @@ pub record IsInfoUntold (store_name : List ℕ) (before after : World) : Type 0 
 
 -- What `info` does, by its status. It changes no file.
 pub record IsInfo (store_name : List ℕ) (before after : World) (status : ℕ) : Type 0 where
+  pub statuses : (status ≡ 0) ⊎ (status ≡ 1) ⊎ (status ≡ 3) ⊎ (status ≡ 5) ⊎ (status ≡ 9)
   pub same : after.files ≡ before.files
   pub done : status ≡ 0 → IsInfoDone store_name before after
   pub file : status ≡ 3 → IsStoreUnread store_name before after

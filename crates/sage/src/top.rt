@@ -269,6 +269,7 @@ fn run_command<S: Shelf, O: Sink, E: Sink>(
 ) -> u8
     requires { HasQuanta command.now }
     ensures files { KeepsFiles (Some command.now) (S.files shelf.old) (S.files shelf.new) }
+    ensures no_store { OfCommand command.now (λ document query quanta. result ≡ 5 → ⊥) }
     ensures build { OfBuild command.now (λ document store. IsBuild document store
         (record { files = S.files shelf.old; faults = S.faults shelf.old; out = O.written out.old; out_faults = O.faults out.old; err = E.written err.old; err_faults = E.faults err.old })
         (record { files = S.files shelf.new; faults = S.faults shelf.new; out = O.written out.new; out_faults = O.faults out.new; err = E.written err.new; err_faults = E.faults err.new }) result) }
@@ -338,6 +339,7 @@ pub fn run<S: Shelf, L: Link, D: Door, O: Sink, E: Sink>(
         RefusesQuery document query (S.files shelf.old) (S.faults shelf.old) (S.faults shelf.new) result) }
     ensures complete { UnderCommand words.now (λ document query quanta.
         IsComplete document query (S.files shelf.old) (S.faults shelf.old) (S.faults shelf.new) (O.faults out.old) (O.faults out.new) result) }
+    ensures no_store { UnderCommand words.now (λ document query quanta. result ≡ 5 → ⊥) }
     ensures build { UnderBuild words.now (λ document store. IsBuild document store
         (record { files = S.files shelf.old; faults = S.faults shelf.old; out = O.written out.old; out_faults = O.faults out.old; err = E.written err.old; err_faults = E.faults err.old })
         (record { files = S.files shelf.new; faults = S.faults shelf.new; out = O.written out.new; out_faults = O.faults out.new; err = E.written err.new; err_faults = E.faults err.new }) result) }
