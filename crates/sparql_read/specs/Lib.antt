@@ -1,0 +1,5 @@
+pub mod Symbols
+pub mod Parser
+pub mod Reads
+pub mod Terms
+pub mod TermReading
