@@ -3,3 +3,5 @@ pub mod Parser
 pub mod Reads
 pub mod Terms
 pub mod TermReading
+pub mod Expressions
+pub mod ExprReading

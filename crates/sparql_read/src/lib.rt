@@ -2,5 +2,6 @@
 #![tactic(auto)]
 
 mod cursor;
+mod exprs;
 mod fault;
 mod terms;

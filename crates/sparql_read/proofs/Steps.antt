@@ -1,0 +1,156 @@
+-- Steps of a reader, and what it read of the grammar.
+use Rattle.std.proofs.Common.{◌≡◌, ℕ, zero, suc, ◌+◌, ◌<◌, ◌≤◌, List, [], ◌∷◌, ◌++◌, length, Option, Some, None, refl, sym, subst, ap, ◌∙◌, append_assoc, arith}
+use Rattle.std.proofs.lemmas.List.{append-nil}
+use Rattle.sparql_symbol.specs.declared.symbol.Shape.{Shape}
+use Rattle.sparql_symbol.specs.declared.symbol.Shape.TheVariants as s
+use Rattle.sparql_symbol.specs.declared.symbol.Symbol.{Symbol}
+use Rattle.sparql_read.specs.Symbols.{Is, is, Holds, holds, symbol}
+use Rattle.sparql_read.specs.Parser as p
+use Rattle.sparql_read.specs.Parser.{Parser, and_then, head, next, value, more, all_more, again, ◌>>=◌, ◌>>◌, peek}
+
+-- ---- symbols
+
+pub is-next : (shape : Shape) (ts : List Symbol) → head ts ≡ Some shape → Is shape ts (next ts)
+unfolding head next
+is-next shape [] h = absurd cc
+is-next shape (t ∷ ts) h = let e : t.shape ≡ shape = cc in subst (λ v. Is v (t ∷ ts) ts) e (is {shape = t.shape} {value = t.value} {rest = ts})
+
+pub holds-next : (shape : Shape) (ts : List Symbol) → head ts ≡ Some shape → Holds shape (value ts) ts (next ts)
+unfolding head next value
+holds-next shape [] h = absurd cc
+holds-next shape (t ∷ ts) h = let e : t.shape ≡ shape = cc in subst (λ v. Holds v t.value (t ∷ ts) ts) e (holds {shape = t.shape} {value = t.value} {rest = ts})
+
+pub is-head : {shape : Shape} {ts us : List Symbol} → Is shape ts us → head ts ≡ Some shape
+unfolding head
+is-head is = refl
+
+pub is-behind : {shape : Shape} {ts us : List Symbol} → Is shape ts us → next ts ≡ us
+unfolding next
+is-behind is = refl
+
+pub holds-head : {shape : Shape} {word : List ℕ} {ts us : List Symbol} → Holds shape word ts us → head ts ≡ Some shape
+unfolding head
+holds-head holds = refl
+
+pub holds-behind : {shape : Shape} {word : List ℕ} {ts us : List Symbol} → Holds shape word ts us → next ts ≡ us
+unfolding next
+holds-behind holds = refl
+
+pub holds-value : {shape : Shape} {word : List ℕ} {ts us : List Symbol} → Holds shape word ts us → value ts ≡ word
+unfolding value
+holds-value holds = refl
+
+pub is-shorter : {shape : Shape} {ts us : List Symbol} → Is shape ts us → length us < length ts
+is-shorter is = omega arith
+
+pub holds-shorter : {shape : Shape} {word : List ℕ} {ts us : List Symbol} → Holds shape word ts us → length us < length ts
+holds-shorter holds = omega arith
+
+-- ---- sound: what was read, if anything, is as P says
+
+abbrev pub Good : {A : Type 0} → (A → List Symbol → Type 0) → Option (A × List Symbol) → Type 0
+Good P None = Unit {0}
+Good P (Some found) = P found.0 found.1
+
+pub then_good : {A B : Type 0} (P : A → List Symbol → Type 0) (Q : B → List Symbol → Type 0) (o : Option (A × List Symbol)) (f : A → Parser B)
+    → Good P o → ((a : A) (us : List Symbol) → P a us → Good Q (f a us)) → Good Q (and_then o f)
+then_good P Q None f h k = tt
+then_good P Q (Some found) f h k = k found.0 found.1 h
+
+pub weaken : {A : Type 0} (P Q : A → List Symbol → Type 0) (o : Option (A × List Symbol)) → Good P o → ((a : A) (us : List Symbol) → P a us → Q a us) → Good Q o
+weaken P Q None h k = tt
+weaken P Q (Some found) h k = k found.0 found.1 h
+
+-- all was found with more at its end
+abbrev pub Adds : {A : Type 0} → (List A → List Symbol → Type 0) → List A → List A → List Symbol → Type 0
+Adds {A} Tail found all rest = (more : List A) × (all ≡ found ++ more) × Tail more rest
+
+pub none_more : {A : Type 0} (found : List A) → found ≡ found ++ []
+none_more found = sym (append-nil found)
+
+pub one_more : {A : Type 0} {all : List A} (found : List A) (x : A) (more : List A) → all ≡ (found ++ x ∷ []) ++ more → all ≡ found ++ x ∷ more
+one_more found x more e = e ∙ append_assoc found (x ∷ []) more
+
+-- the item stands before whatever follows it
+abbrev pub Extends : {A : Type 0} → (List Symbol → List A → List Symbol → Type 0) → List Symbol → A → List Symbol → Type 0
+Extends {A} Tail ts x us = (xs : List A) (rest : List Symbol) → Tail us xs rest → Tail ts (x ∷ xs) rest
+
+-- what a turn reads extends what follows
+abbrev pub Turns : {A : Type 0} → (List Symbol → List A → List Symbol → Type 0) → List Symbol → Option (Parser A) → Type 0
+Turns Tail ts None = Unit {0}
+Turns Tail ts (Some q) = Good (Extends Tail ts) (q ts)
+
+module _ {A : Type 0} (Tail : List Symbol → List A → List Symbol → Type 0) (turn : Option Shape → Option (Parser A))
+    (end : (ts : List Symbol) → Tail ts [] ts) (turns : (ts : List Symbol) → Turns Tail ts (turn (head ts))) where
+
+  again-sound : (n : ℕ) (found : List A) (ts : List Symbol) (o : Option (Parser A)) → Turns Tail ts o
+      → ((all : List A) (us : List Symbol) → Good (Adds (Tail us) all) (more turn n all us)) → Good (Adds (Tail ts) found) (again o (more turn n) found ts)
+  again-sound n found ts None h go = ([], none_more found, end ts)
+  again-sound n found ts (Some q) h go =
+      then_good (Extends Tail ts) (Adds (Tail ts) found) (q ts) _ h (λ x us k.
+          weaken (Adds (Tail us) (found ++ x ∷ [])) (Adds (Tail ts) found) _ (go (found ++ x ∷ []) us)
+              (λ all rest m. (x ∷ m.0, one_more found x m.0 m.1, k m.0 rest m.2)))
+
+  pub more-sound : (n : ℕ) (found : List A) (ts : List Symbol) → Good (Adds (Tail ts) found) (more turn n found ts)
+  unfolding more
+  more-sound zero found ts = ([], none_more found, end ts)
+  more-sound (suc n) found ts = again-sound n found ts (turn (head ts)) (turns ts) (λ all us. more-sound n all us)
+
+  pub all_more-sound : (found : List A) (ts : List Symbol) → Good (Adds (Tail ts) found) (all_more turn found ts)
+  unfolding all_more
+  all_more-sound found ts = more-sound (length ts) found ts
+
+pub open-sound : (ts : List Symbol) → Good (λ (x : Unit {0}) us. Is s.Open ts us) (p.open_paren ts)
+unfolding p.open_paren
+open-sound ts = by (head ts) refl
+  where
+  by : (o : Option Shape) → head ts ≡ o → Good (λ (x : Unit {0}) us. Is s.Open ts us) (p.open_by o ts)
+  by (Some s.Open) h = is-next s.Open ts h
+  by o h = tt
+
+pub close-sound : (ts : List Symbol) → Good (λ (x : Unit {0}) us. Is s.Close ts us) (p.close_paren ts)
+unfolding p.close_paren
+close-sound ts = by (head ts) refl
+  where
+  by : (o : Option Shape) → head ts ≡ o → Good (λ (x : Unit {0}) us. Is s.Close ts us) (p.close_by o ts)
+  by (Some s.Close) h = is-next s.Close ts h
+  by o h = tt
+
+pub name-sound : (ts : List Symbol) → Good (λ word us. Holds s.Var word ts us) (p.name ts)
+unfolding p.name
+name-sound ts = by (head ts) refl
+  where
+  by : (o : Option Shape) → head ts ≡ o → Good (λ word us. Holds s.Var word ts us) (p.name_by o ts)
+  by (Some s.Var) h = holds-next s.Var ts h
+  by o h = tt
+
+-- ---- complete: the reader finds this
+
+pub record Finds {A : Type 0} (q : Parser A) (ts : List Symbol) (a : A) (rest : List Symbol) : Type 0 where
+  pub found : q ts ≡ Some (a, rest)
+
+pub same_found : {A : Type 0} {q : Parser A} {ts rest : List Symbol} {a b : A} → Finds q ts a rest → a ≡ b → Finds q ts b rest
+same_found {q = q} {ts = ts} {rest = rest} h e = subst (λ v. Finds q ts v rest) e h
+
+module _ {A : Type 0} (turn : Option Shape → Option (Parser A)) where
+  pub more-stop : (n : ℕ) (found : List A) (ts : List Symbol) → turn (head ts) ≡ None → Finds (more turn n found) ts found ts
+  unfolding more
+  more-stop zero found ts h = record { found = refl }
+  more-stop (suc n) found ts h = record { found = ap (λ o. again o (more turn n) found ts) h }
+
+  pub more-step : (q : Parser A) (n : ℕ) (found : List A) (ts us : List Symbol) (x : A) {all : List A} {rest : List Symbol} → turn (head ts) ≡ Some q → Finds q ts x us
+      → Finds (more turn n (found ++ x ∷ [])) us all rest → Finds (more turn (suc n) found) ts all rest
+  unfolding more
+  more-step q n found ts us x e h k = record { found = ap (λ o. again o (more turn n) found ts) e ∙ ap (λ o. and_then o (λ y. more turn n (found ++ y ∷ []))) h.found ∙ k.found }
+
+pub open-finds : {ts us : List Symbol} → Is s.Open ts us → Finds p.open_paren ts tt us
+unfolding p.open_paren head next
+open-finds is = record { found = refl }
+
+pub close-finds : {ts us : List Symbol} → Is s.Close ts us → Finds p.close_paren ts tt us
+unfolding p.close_paren head next
+close-finds is = record { found = refl }
+
+pub name-finds : {ts us : List Symbol} {word : List ℕ} → Holds s.Var word ts us → Finds p.name ts word us
+unfolding p.name head next value
+name-finds holds = record { found = refl }
