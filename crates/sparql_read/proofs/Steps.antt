@@ -6,7 +6,7 @@ use Rattle.sparql_symbol.specs.declared.symbol.Shape.TheVariants as s
 use Rattle.sparql_symbol.specs.declared.symbol.Symbol.{Symbol}
 use Rattle.sparql_read.specs.Symbols.{Is, is, Holds, holds, symbol}
 use Rattle.sparql_read.specs.Parser as p
-use Rattle.sparql_read.specs.Parser.{Parser, and_then, head, next, value, more, all_more, again, ◌>>=◌, ◌>>◌, peek}
+use Rattle.sparql_read.specs.Parser.{Parser, and_then, head, next, value, more, all_more, again, ◌>>=◌, ◌>>◌, ◌<<◌, ◌<$>◌, peek, take, spelled, pure, close_paren}
 
 -- ---- symbols
 
@@ -154,3 +154,23 @@ close-finds is = record { found = refl }
 pub name-finds : {ts us : List Symbol} {word : List ℕ} → Holds s.Var word ts us → Finds p.name ts word us
 unfolding p.name head next value
 name-finds holds = record { found = refl }
+
+-- ---- how finds compose
+
+pub then-finds : {A B : Type 0} {q : Parser A} (f : A → Parser B) {ts us rest : List Symbol} {a : A} {b : B} → Finds q ts a us → Finds (f a) us b rest → Finds (q >>= f) ts b rest
+then-finds f h k = record { found = ap (λ o. and_then o f) h.found ∙ k.found }
+
+pub map-finds : {A B : Type 0} {q : Parser A} (f : A → B) {ts rest : List Symbol} {a : A} → Finds q ts a rest → Finds (f <$> q) ts (f a) rest
+map-finds f h = record { found = ap (λ o. and_then o (λ x. pure (f x))) h.found }
+
+pub take-finds : {A : Type 0} {q : Parser A} {shape : Shape} {ts us rest : List Symbol} {a : A} → Is shape ts us → Finds q us a rest → Finds (take >> q) ts a rest
+take-finds {q = q} i h = record { found = ap q (is-behind i) ∙ h.found }
+
+pub at-finds : {A : Type 0} (by : Option Shape → Parser A) {ts rest : List Symbol} {a : A} {o : Option Shape} → head ts ≡ o → Finds (by o) ts a rest → Finds (peek >>= by) ts a rest
+at-finds by {ts = ts} e h = record { found = ap (λ o. by o ts) e ∙ h.found }
+
+pub spelled-finds : {A : Type 0} (f : List ℕ → A) {shape : Shape} {word : List ℕ} {ts rest : List Symbol} → Holds shape word ts rest → Finds (f <$> spelled) ts (f word) rest
+spelled-finds f h = record { found = λ i. Some (f (holds-value h i), holds-behind h i) }
+
+pub closed-finds : {A : Type 0} {q : Parser A} {ts us rest : List Symbol} {a : A} → Finds q ts a us → Is s.Close us rest → Finds (q << close_paren) ts a rest
+closed-finds h i = then-finds _ h (then-finds _ (close-finds i) (record { found = refl }))
