@@ -28,11 +28,11 @@ in-finds : {ts us : List Symbol} → Is s.In ts us → Finds l.in_word ts tt us
 unfolding l.in_word
 in-finds i = at-finds l.in_by (is-head i) (take-finds {q = λ w. Some (tt, w)} i (record { found = refl }))
 
-abbrev not_distinct_at : Option Shape → Bool
+abbrev pub not_distinct_at : Option Shape → Bool
 not_distinct_at (Some s.Distinct) = false
 not_distinct_at o = true
 
-expr-not_distinct : (o : Option Shape) → begins_expr o ≡ true → not_distinct_at o ≡ true
+pub expr-not_distinct : (o : Option Shape) → begins_expr o ≡ true → not_distinct_at o ≡ true
 expr-not_distinct (Some s.Distinct) h = absurd cc
 expr-not_distinct o h = refl
 
@@ -45,7 +45,7 @@ distinct-finds (not_distinct {ts}) h = record { found = by (head ts) h }
   by (Some s.Distinct) e = absurd cc
   by o e = refl
 
-bound-finds : {us vs ws rest : List Symbol} {word : List ℕ} → Is s.Open us vs → Holds s.Var word vs ws → Is s.Close ws rest → Finds l.bound us (Call functions.Bound (exprs (Var word ∷ []))) rest
+pub bound-finds : {us vs ws rest : List Symbol} {word : List ℕ} → Is s.Open us vs → Holds s.Var word vs ws → Is s.Close ws rest → Finds l.bound us (Call functions.Bound (exprs (Var word ∷ []))) rest
 unfolding l.bound
 bound-finds i h j = then-finds _ (open-finds i) (then-finds _ (name-finds h) (then-finds _ (close-finds j) (record { found = refl })))
 
@@ -82,7 +82,7 @@ term-constant (terms.minus i h) = ap is_constant (is-head i)
 term-constant (terms.boolean h) = ap is_constant (holds-head h)
 
 module _ (p : Bool → Parser Expr) (b : Bool) where
-  list_none-finds : {ts us rest : List Symbol} → Is s.Open ts us → Is s.Close us rest → Finds (l.list p b) ts [] rest
+  pub list_none-finds : {ts us rest : List Symbol} → Is s.Open ts us → Is s.Close us rest → Finds (l.list p b) ts [] rest
   unfolding l.list
   list_none-finds i j = then-finds _ (open-finds i) (at-finds (l.list_by p b) (is-head j) (take-finds {q = λ w. Some ([], w)} j (record { found = refl })))
 
@@ -102,17 +102,17 @@ module _ (p : Bool → Parser Expr) (b : Bool) where
   call_by-list functions.Bound n us e = absurd cc
   call_by-list function n us e = refl
 
-  call-finds : {us rest : List Symbol} {function : Function} {arguments : List Expr} → Finds (l.list p b) us arguments rest → takes function (length arguments) ≡ true
+  pub call-finds : {us rest : List Symbol} {function : Function} {arguments : List Expr} → Finds (l.list p b) us arguments rest → takes function (length arguments) ≡ true
       → Finds (l.call p b function) us (Call function (exprs arguments)) rest
   unfolding l.call
   call-finds {us = us} {rest = rest} {function = function} {arguments = arguments} h e =
       record { found = call_by-list function (length arguments) us e ∙ (then-finds (λ xs. l.taken function xs) h (taken-finds function arguments rest e)).found }
 
-  call_bound-finds : {us rest : List Symbol} {a : Expr} → Finds l.bound us a rest → Finds (l.call p b functions.Bound) us a rest
+  pub call_bound-finds : {us rest : List Symbol} {a : Expr} → Finds l.bound us a rest → Finds (l.call p b functions.Bound) us a rest
   unfolding l.call
   call_bound-finds h = record { found = h.found }
 
-  count_all-finds : {us vs ws xs rest : List Symbol} {once : Bool} → Is s.Open us vs → Finds l.distinct vs once ws → Is s.Star ws xs → Is s.Close xs rest
+  pub count_all-finds : {us vs ws xs rest : List Symbol} {once : Bool} → Is s.Open us vs → Finds l.distinct vs once ws → Is s.Star ws xs → Is s.Close xs rest
       → Finds (l.aggregate p b kinds.Count) us (AggregateAll kinds.Count once) rest
   unfolding l.aggregate
   count_all-finds {once = once} i d k m = then-finds _ (open-finds i) (then-finds _ d (closed-finds (at-finds (l.counted p b kinds.Count once) (is-head k) (take-finds {q = λ w. Some (AggregateAll kinds.Count once, w)} k (record { found = refl }))) m))
@@ -121,7 +121,7 @@ module _ (p : Bool → Parser Expr) (b : Bool) where
   counted-expr kind once us (Some s.Star) e = absurd cc
   counted-expr kind once us o e = refl
 
-  aggregate-finds : {us vs ws xs rest : List Symbol} {kind : AggregateKind} {once : Bool} {a : Expr} → Is s.Open us vs → Finds l.distinct vs once ws → begins_expr (head ws) ≡ true → Finds (p false) ws a xs
+  pub aggregate-finds : {us vs ws xs rest : List Symbol} {kind : AggregateKind} {once : Bool} {a : Expr} → Is s.Open us vs → Finds l.distinct vs once ws → begins_expr (head ws) ≡ true → Finds (p false) ws a xs
       → Is s.Close xs rest → Finds (l.aggregate p b kind) us (Aggregate kind once a) rest
   unfolding l.aggregate
   aggregate-finds {ws = ws} {xs = xs} {kind = kind} {once = once} {a = a} i d e h m =
@@ -320,7 +320,7 @@ mutual
   rel-finds-all {b = b} d (rel_in h i k) fits stops = rel_in-finds (l.expr d) b (sum-finds-all d h fits (is-stops 4 i (omega arith))) i (list-finds-all d k (omega (arith, sum-shorter h, is-shorter i)))
   rel-finds-all {b = b} d (rel_not_in h i j k) fits stops = rel_not_in-finds (l.expr d) b (sum-finds-all d h fits (is-stops 4 i (omega arith))) i j (list-finds-all d k (omega (arith, sum-shorter h, is-shorter i, is-shorter j)))
 
-  list-finds-all : {b : Bool} {ts rest : List Symbol} {xs : List Expr} (d : ℕ) → IsList b ts xs rest → length ts ≤ d → Finds (l.list (l.expr d) b) ts xs rest
+  pub list-finds-all : {b : Bool} {ts rest : List Symbol} {xs : List Expr} (d : ℕ) → IsList b ts xs rest → length ts ≤ d → Finds (l.list (l.expr d) b) ts xs rest
   list-finds-all {b = b} d (list_none i j) fits = list_none-finds (l.expr d) b i j
   list-finds-all {b = b} d (list_some {vs = vs} {first = first} i h k j) fits =
       list_some-finds (l.expr d) b i (expr-begins h) (expr-finds d h (omega (arith, is-shorter i)) (list_tail-stops k j))

@@ -1,7 +1,11 @@
 pub mod Steps
 pub mod Turns
+pub mod RowTurns
 pub mod TermLaws
 pub mod ExprSound
 pub mod ExprShorter
 pub mod ExprEnds
 pub mod ExprComplete
+pub mod TripleLaws
+pub mod ValueLaws
+pub mod GroupLaws

@@ -1,12 +1,12 @@
 -- Steps of a reader, and what it read of the grammar.
-use Rattle.std.proofs.Common.{◌≡◌, ℕ, zero, suc, ◌+◌, ◌<◌, ◌≤◌, List, [], ◌∷◌, ◌++◌, length, Option, Some, None, refl, sym, subst, ap, ◌∙◌, append_assoc, arith}
+use Rattle.std.proofs.Common.{◌≡◌, ℕ, zero, suc, ◌+◌, ◌<◌, ◌≤◌, Bool, List, [], ◌∷◌, ◌++◌, length, Option, Some, None, refl, sym, subst, ap, ◌∙◌, append_assoc, arith}
 use Rattle.std.proofs.lemmas.List.{append-nil}
 use Rattle.sparql_symbol.specs.declared.symbol.Shape.{Shape}
 use Rattle.sparql_symbol.specs.declared.symbol.Shape.TheVariants as s
 use Rattle.sparql_symbol.specs.declared.symbol.Symbol.{Symbol}
 use Rattle.sparql_read.specs.Symbols.{Is, is, Holds, holds, symbol}
 use Rattle.sparql_read.specs.Parser as p
-use Rattle.sparql_read.specs.Parser.{Parser, and_then, head, next, value, more, all_more, again, ◌>>=◌, ◌>>◌, ◌<<◌, ◌<$>◌, peek, take, spelled, pure, close_paren}
+use Rattle.sparql_read.specs.Parser.{Parser, and_then, head, next, value, more, all_more, again, repeat, all_steps, onward, ◌>>=◌, ◌>>◌, ◌<<◌, ◌<$>◌, peek, take, spelled, pure, close_paren}
 
 -- ---- symbols
 
@@ -174,3 +174,89 @@ spelled-finds f h = record { found = λ i. Some (f (holds-value h i), holds-behi
 
 pub closed-finds : {A : Type 0} {q : Parser A} {ts us rest : List Symbol} {a : A} → Finds q ts a us → Is s.Close us rest → Finds (q << close_paren) ts a rest
 closed-finds h i = then-finds _ h (then-finds _ (close-finds i) (record { found = refl }))
+
+pub tested-finds : {A : Type 0} (test : Option Shape → Bool) (f : Bool → Parser A) {ts rest : List Symbol} {a : A} (v : Bool) → test (head ts) ≡ v → Finds (f v) ts a rest
+    → Finds (peek >>= (λ o. f (test o))) ts a rest
+tested-finds test f {ts = ts} v e h = record { found = ap (λ w. f w ts) e ∙ h.found }
+
+-- ---- steps on what was found
+
+-- what was found grows, and what is added stands before whatever follows it
+abbrev pub Grows : {A : Type 0} → (List Symbol → List A → List Symbol → Type 0) → List Symbol → List A → List A → List Symbol → Type 0
+Grows {A} Tail ts found all us = (added : List A) × (all ≡ found ++ added) × ((xs : List A) (rest : List Symbol) → Tail us xs rest → Tail ts (added ++ xs) rest)
+
+abbrev pub GrowsBy : {A : Type 0} → (List Symbol → List A → List Symbol → Type 0) → List Symbol → Option (List A → Parser (List A)) → Type 0
+GrowsBy Tail ts None = Unit {0}
+GrowsBy {A} Tail ts (Some step) = (found : List A) → Good (Grows Tail ts found) (step found ts)
+
+pub append_more : {A : Type 0} {whole all : List A} (found added more : List A) → whole ≡ all ++ more → all ≡ found ++ added → whole ≡ found ++ (added ++ more)
+append_more found added more e d = e ∙ ap (λ v. v ++ more) d ∙ append_assoc found added more
+
+module _ {A : Type 0} (Tail : List Symbol → List A → List Symbol → Type 0) (turn : Option Shape → Option (List A → Parser (List A)))
+    (end : (ts : List Symbol) → Tail ts [] ts) (steps : (ts : List Symbol) → GrowsBy Tail ts (turn (head ts))) where
+
+  onward-sound : (n : ℕ) (found : List A) (ts : List Symbol) (o : Option (List A → Parser (List A))) → GrowsBy Tail ts o
+      → ((all : List A) (us : List Symbol) → Good (Adds (Tail us) all) (repeat turn n all us)) → Good (Adds (Tail ts) found) (onward o (repeat turn n) found ts)
+  onward-sound n found ts None h go = ([], none_more found, end ts)
+  onward-sound n found ts (Some step) h go =
+      then_good (Grows Tail ts found) (Adds (Tail ts) found) (step found ts) _ (h found) (λ all us k.
+          weaken (Adds (Tail us) all) (Adds (Tail ts) found) _ (go all us)
+              (λ whole rest m. (k.0 ++ m.0, append_more found k.0 m.0 m.1 k.1, k.2 m.0 rest m.2)))
+
+  pub repeat-sound : (n : ℕ) (found : List A) (ts : List Symbol) → Good (Adds (Tail ts) found) (repeat turn n found ts)
+  unfolding repeat
+  repeat-sound zero found ts = ([], none_more found, end ts)
+  repeat-sound (suc n) found ts = onward-sound n found ts (turn (head ts)) (steps ts) (λ all us. repeat-sound n all us)
+
+  pub all_steps-sound : (found : List A) (ts : List Symbol) → Good (Adds (Tail ts) found) (all_steps turn found ts)
+  unfolding all_steps
+  all_steps-sound found ts = repeat-sound (length ts) found ts
+
+module _ {A : Type 0} (turn : Option Shape → Option (List A → Parser (List A))) where
+  pub repeat-stop : (n : ℕ) (found : List A) (ts : List Symbol) → turn (head ts) ≡ None → Finds (repeat turn n found) ts found ts
+  unfolding repeat
+  repeat-stop zero found ts h = record { found = refl }
+  repeat-stop (suc n) found ts h = record { found = ap (λ o. onward o (repeat turn n) found ts) h }
+
+  pub repeat-step : (step : List A → Parser (List A)) (n : ℕ) (found all : List A) (ts us : List Symbol) {whole : List A} {rest : List Symbol} → turn (head ts) ≡ Some step
+      → Finds (step found) ts all us → Finds (repeat turn n all) us whole rest → Finds (repeat turn (suc n) found) ts whole rest
+  unfolding repeat
+  repeat-step step n found all ts us e h k = record { found = ap (λ o. onward o (repeat turn n) found ts) e ∙ ap (λ o. and_then o (repeat turn n)) h.found ∙ k.found }
+
+-- ---- more single symbols
+
+pub open_brace-sound : (ts : List Symbol) → Good (λ (x : Unit {0}) us. Is s.OpenBrace ts us) (p.open_brace ts)
+unfolding p.open_brace
+open_brace-sound ts = by (head ts) refl
+  where
+  by : (o : Option Shape) → head ts ≡ o → Good (λ (x : Unit {0}) us. Is s.OpenBrace ts us) (p.open_brace_by o ts)
+  by (Some s.OpenBrace) h = is-next s.OpenBrace ts h
+  by o h = tt
+
+pub close_brace-sound : (ts : List Symbol) → Good (λ (x : Unit {0}) us. Is s.CloseBrace ts us) (p.close_brace ts)
+unfolding p.close_brace
+close_brace-sound ts = by (head ts) refl
+  where
+  by : (o : Option Shape) → head ts ≡ o → Good (λ (x : Unit {0}) us. Is s.CloseBrace ts us) (p.close_brace_by o ts)
+  by (Some s.CloseBrace) h = is-next s.CloseBrace ts h
+  by o h = tt
+
+pub as-sound : (ts : List Symbol) → Good (λ (x : Unit {0}) us. Is s.As ts us) (p.as_word ts)
+unfolding p.as_word
+as-sound ts = by (head ts) refl
+  where
+  by : (o : Option Shape) → head ts ≡ o → Good (λ (x : Unit {0}) us. Is s.As ts us) (p.as_by o ts)
+  by (Some s.As) h = is-next s.As ts h
+  by o h = tt
+
+pub open_brace-finds : {ts us : List Symbol} → Is s.OpenBrace ts us → Finds p.open_brace ts tt us
+unfolding p.open_brace head next
+open_brace-finds is = record { found = refl }
+
+pub close_brace-finds : {ts us : List Symbol} → Is s.CloseBrace ts us → Finds p.close_brace ts tt us
+unfolding p.close_brace head next
+close_brace-finds is = record { found = refl }
+
+pub as-finds : {ts us : List Symbol} → Is s.As ts us → Finds p.as_word ts tt us
+unfolding p.as_word head next
+as-finds is = record { found = refl }

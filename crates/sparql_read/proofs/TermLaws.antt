@@ -155,3 +155,28 @@ term-finds (number h) ends = number-term h (number-finds h)
 term-finds (plus h k) ends = term-plus h (number-finds k)
 term-finds (minus h k) ends = term-minus h (number-finds k)
 term-finds (boolean h) ends = term-boolean h
+
+-- how a term begins
+abbrev pub begins_term : Option Shape → Bool
+begins_term (Some s.Iri) = true
+begins_term (Some s.Quoted) = true
+begins_term (Some s.Integer) = true
+begins_term (Some s.Decimal) = true
+begins_term (Some s.Boolean) = true
+begins_term (Some s.Plus) = true
+begins_term (Some s.Minus) = true
+begins_term o = false
+
+number-head : {sign : List ℕ} {ts rest : List Symbol} {a : Term} → IsNumber sign ts a rest → begins_term (head ts) ≡ true
+number-head (integer h) = ap begins_term (holds-head h)
+number-head (decimal h) = ap begins_term (holds-head h)
+
+pub term-head : {ts rest : List Symbol} {a : Term} → IsTerm ts a rest → begins_term (head ts) ≡ true
+term-head (iri h) = ap begins_term (holds-head h)
+term-head (plain h) = ap begins_term (holds-head h)
+term-head (tagged h k) = ap begins_term (holds-head h)
+term-head (typed h k m other) = ap begins_term (holds-head h)
+term-head (number h) = number-head h
+term-head (plus i h) = ap begins_term (is-head i)
+term-head (minus i h) = ap begins_term (is-head i)
+term-head (boolean h) = ap begins_term (holds-head h)

@@ -5,3 +5,10 @@ pub mod Terms
 pub mod TermReading
 pub mod Expressions
 pub mod ExprReading
+pub mod Triples
+pub mod TripleReading
+pub mod Values
+pub mod ValueReading
+pub mod Groups
+pub mod GroupReading
+pub mod Elements

@@ -83,6 +83,20 @@ unfoldable pub more : {A : Type 0} → (Option Shape → Option (Parser A)) → 
 more turn zero found = pure found
 more turn (suc n) found = λ ts. again (turn (head ts)) (more turn n) found ts
 
+-- a step on what was found, if the next symbol begins one
+abbrev pub onward : {A : Type 0} → Option (A → Parser A) → (A → Parser A) → A → Parser A
+onward None go found = pure found
+onward (Some step) go found = step found >>= go
+
+-- so many steps at most, as long as the next symbol begins one
+unfoldable pub repeat : {A : Type 0} → (Option Shape → Option (A → Parser A)) → ℕ → A → Parser A
+repeat turn zero found = pure found
+repeat turn (suc n) found = λ ts. onward (turn (head ts)) (repeat turn n) found ts
+
+-- as many as there are
+unfoldable pub all_steps : {A : Type 0} → (Option Shape → Option (A → Parser A)) → A → Parser A
+all_steps turn found = λ ts. repeat turn (length ts) found ts
+
 -- all that follow
 unfoldable pub all_more : {A : Type 0} → (Option Shape → Option (Parser A)) → List A → Parser (List A)
 all_more turn found = λ ts. more turn (length ts) found ts
@@ -109,3 +123,24 @@ name_by o = refuse
 
 unfoldable pub name : Parser (List ℕ)
 name = peek >>= name_by
+
+abbrev pub open_brace_by : Option Shape → Parser (Unit {0})
+open_brace_by (Some s.OpenBrace) = take
+open_brace_by o = refuse
+
+unfoldable pub open_brace : Parser (Unit {0})
+open_brace = peek >>= open_brace_by
+
+abbrev pub close_brace_by : Option Shape → Parser (Unit {0})
+close_brace_by (Some s.CloseBrace) = take
+close_brace_by o = refuse
+
+unfoldable pub close_brace : Parser (Unit {0})
+close_brace = peek >>= close_brace_by
+
+abbrev pub as_by : Option Shape → Parser (Unit {0})
+as_by (Some s.As) = take
+as_by o = refuse
+
+unfoldable pub as_word : Parser (Unit {0})
+as_word = peek >>= as_by

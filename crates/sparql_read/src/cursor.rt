@@ -112,6 +112,48 @@ impl<'a> Cursor<'a> {
         }
     }
 
+    /// Goes past `{`.
+    #[tactic(auto, unfolding(crate::specs::Parser::open_brace))]
+    pub fn open_brace(&mut self) -> Result<(), Fault>
+        ensures { Reads nothing (spec.open_brace self.old) result self.new }
+    {
+        match self.peek() {
+            Some(Shape::OpenBrace) => {
+                self.advance();
+                Ok(())
+            }
+            _ => Err(Fault::NotAQuery),
+        }
+    }
+
+    /// Goes past `}`.
+    #[tactic(auto, unfolding(crate::specs::Parser::close_brace))]
+    pub fn close_brace(&mut self) -> Result<(), Fault>
+        ensures { Reads nothing (spec.close_brace self.old) result self.new }
+    {
+        match self.peek() {
+            Some(Shape::CloseBrace) => {
+                self.advance();
+                Ok(())
+            }
+            _ => Err(Fault::NotAQuery),
+        }
+    }
+
+    /// Goes past `AS`.
+    #[tactic(auto, unfolding(crate::specs::Parser::as_word))]
+    pub fn as_word(&mut self) -> Result<(), Fault>
+        ensures { Reads nothing (spec.as_word self.old) result self.new }
+    {
+        match self.peek() {
+            Some(Shape::As) => {
+                self.advance();
+                Ok(())
+            }
+            _ => Err(Fault::NotAQuery),
+        }
+    }
+
     /// The name of a variable.
     #[tactic(auto, unfolding(crate::specs::Parser::name))]
     pub fn name(&mut self, alloc: Global) -> Result<Text, Fault>

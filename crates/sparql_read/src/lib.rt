@@ -4,4 +4,7 @@
 mod cursor;
 mod exprs;
 mod fault;
+mod groups;
 mod terms;
+mod triples;
+mod values;
