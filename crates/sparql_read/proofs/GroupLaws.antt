@@ -301,7 +301,7 @@ group-step : (d : ℕ) {ts rest : List Symbol} {a : Group} → Finds (r.braced (
 unfolding r.group
 group-step d h = record { found = h.found }
 
-group-head : {ts rest : List Symbol} {a : Group} → IsGroup ts a rest → head ts ≡ Some s.OpenBrace
+pub group-head : {ts rest : List Symbol} {a : Group} → IsGroup ts a rest → head ts ≡ Some s.OpenBrace
 group-head (group i t k j) = is-head i
 
 mutual

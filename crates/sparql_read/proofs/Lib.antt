@@ -9,3 +9,8 @@ pub mod ExprComplete
 pub mod TripleLaws
 pub mod ValueLaws
 pub mod GroupLaws
+pub mod Counts
+pub mod QueryLaws
+pub mod QueryComplete
+pub mod Names
+pub mod Spelled

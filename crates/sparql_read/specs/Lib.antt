@@ -12,3 +12,8 @@ pub mod ValueReading
 pub mod Groups
 pub mod GroupReading
 pub mod Elements
+pub mod Queries
+pub mod QueryReading
+pub mod Written
+pub mod Counts
+pub mod Refusals

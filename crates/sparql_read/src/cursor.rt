@@ -62,6 +62,18 @@ impl<'a> Cursor<'a> {
         }
     }
 
+    /// The bytes of the next symbol's value; none where no symbol is left.
+    #[tactic(auto, unfolding(crate::specs::Parser::value))]
+    pub fn word(&self) -> &'a [u8]
+        ensures { result.now ≡ spec.value self.now }
+    {
+        if self.left.is_empty() {
+            &[]
+        } else {
+            self.left[0].value.bytes()
+        }
+    }
+
     /// A copy of the next symbol's value.
     #[tactic(auto, unfolding(crate::specs::Parser::value))]
     pub fn value(&self, alloc: Global) -> Result<Text, Memory>

@@ -17,7 +17,7 @@ use term_core::{Memory, Term, Text};
 
 /// A variable.
 #[tactic(auto, using(sparql_tree::proofs::ExprViews::var_view))]
-fn variable(name: Text) -> Expr
+pub fn variable(name: Text) -> Expr
     ensures { tree_of result ≡ tree.Var name }
 {
     Expr::Var(name)

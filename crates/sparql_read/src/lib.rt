@@ -5,6 +5,11 @@ mod cursor;
 mod exprs;
 mod fault;
 mod groups;
+pub mod law;
+mod queries;
+mod read;
 mod terms;
 mod triples;
 mod values;
+
+pub use read::read_symbols;
