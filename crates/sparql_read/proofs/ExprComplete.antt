@@ -1,7 +1,7 @@
 -- What is of the grammar of expressions is found.
-use Rattle.std.proofs.Common.{◌≡◌, ℕ, zero, suc, ◌+◌, ◌<◌, ◌≤◌, Bool, true, false, List, [], ◌∷◌, ◌++◌, length, Option, Some, None, refl, sym, subst, ap, ◌∙◌, append_assoc, codes, arith}
+use Rattle.std.proofs.Common.{◌≡◌, ℕ, zero, suc, ◌<◌, ◌≤◌, Bool, true, false, List, [], ◌∷◌, ◌++◌, length, Option, Some, None, refl, ap, ◌∙◌, append_assoc, codes, arith}
 use Rattle.term_core.specs.declared.term.Term.{Term}
-use Rattle.sparql_tree.specs.Exprs.{Expr, Var, Const, Or, And, Not, Plus, Minus, Compare, OneOf, Sum, Product, Call, Aggregate, AggregateAll, exprs, operands}
+use Rattle.sparql_tree.specs.Exprs.{Expr, Var, Const, Not, Plus, Minus, Compare, OneOf, Call, Aggregate, AggregateAll, exprs}
 use Rattle.sparql_tree.specs.declared.words.AggregateKind.{AggregateKind}
 use Rattle.sparql_tree.specs.declared.words.AggregateKind.TheVariants as kinds
 use Rattle.sparql_tree.specs.declared.words.CompareOp.{CompareOp}
@@ -11,16 +11,16 @@ use Rattle.sparql_symbol.specs.declared.symbol.Shape.{Shape}
 use Rattle.sparql_symbol.specs.declared.symbol.Shape.TheVariants as s
 use Rattle.sparql_symbol.specs.declared.symbol.Symbol.{Symbol}
 use Rattle.sparql_read.specs.Symbols.{Is, Holds}
-use Rattle.sparql_read.specs.Parser.{Parser, head, next, value, ◌>>=◌, ◌>>◌, ◌<<◌, ◌<$>◌, pure, refuse, peek, take, spelled, more, all_more, open_paren, close_paren, name}
+use Rattle.sparql_read.specs.Parser.{Parser, head, ◌>>=◌, ◌>>◌, ◌<<◌, ◌<$>◌, peek, take, more, all_more, close_paren}
 use Rattle.sparql_read.specs.Terms.{IsNumber, IsTerm}
 use Rattle.sparql_read.specs.Terms as terms
-use Rattle.sparql_read.specs.TermReading.{term, number}
+use Rattle.sparql_read.specs.TermReading.{term}
 use Rattle.sparql_read.specs.ExprReading as l
 use Rattle.sparql_read.specs.Expressions.{IsDistinct, distinct, not_distinct, IsExpr, or, OrTail, or_end, or_more, IsAnd, and, AndTail, and_end, and_more, IsRel, rel_one, rel_compare, rel_in, rel_not_in, IsList, list_none, list_some, ListTail, list_end, list_more, IsSum, sum, SumTail, sum_end, sum_plus, sum_minus, IsProduct, product, ProductTail, product_end, product_times, product_over, IsUnary, bare, not, plus, minus, IsAtom, constant, variable, parens, called, aggregated, IsCall, call, bound, IsAggregate, count_all, aggregate, or_node, and_node, sum_node, product_node, op_of, begins_number, takes}
-use Rattle.sparql_read.proofs.Steps.{is-head, is-shorter, holds-head, holds-shorter, none_more, Finds, same_found, more-stop, more-step, open-finds, close-finds, name-finds, then-finds, map-finds, take-finds, at-finds, spelled-finds, closed-finds}
-use Rattle.sparql_read.proofs.TermLaws.{number-finds, term-finds, term-shorter}
-use Rattle.sparql_read.proofs.ExprShorter.{distinct-shorter, expr-shorter, or_tail-shorter, and-shorter, and_tail-shorter, rel-shorter, list-shorter, list_tail-shorter, sum-shorter, sum_tail-shorter, product-shorter, product_tail-shorter, unary-shorter, atom-shorter, call-shorter, aggregate-shorter}
-use Rattle.sparql_read.proofs.ExprEnds.{begins_expr, number-begins, expr-begins, binds, StopsAt, Stops, stops-later, is-stops, or_tail-stops, and_tail-stops, sum_tail-stops, product_tail-stops, list_tail-stops, op-stops, string-stops}
+use Rattle.sparql_read.proofs.Steps.{is-head, is-shorter, holds-head, none_more, Finds, same_found, more-stop, more-step, open-finds, close-finds, name-finds, then-finds, map-finds, take-finds, at-finds, spelled-finds, closed-finds}
+use Rattle.sparql_read.proofs.TermLaws.{number-finds, term-finds}
+use Rattle.sparql_read.proofs.ExprShorter.{distinct-shorter, expr-shorter, and-shorter, rel-shorter, sum-shorter, product-shorter, unary-shorter}
+use Rattle.sparql_read.proofs.ExprEnds.{begins_expr, number-begins, expr-begins, StopsAt, Stops, stops-later, is-stops, or_tail-stops, and_tail-stops, sum_tail-stops, product_tail-stops, list_tail-stops, op-stops, string-stops}
 
 -- ---- one step for each rule
 
@@ -41,9 +41,9 @@ unfolding l.distinct
 distinct-finds (distinct i) h = at-finds l.distinct_by (is-head i) (take-finds {q = λ w. Some (true, w)} i (record { found = refl }))
 distinct-finds (not_distinct {ts}) h = record { found = by (head ts) h }
   where
-  by : (o : Option Shape) → not_distinct_at o ≡ true → l.distinct_by o ts ≡ Some (false, ts)
-  by (Some s.Distinct) e = absurd cc
-  by o e = refl
+    by : (o : Option Shape) → not_distinct_at o ≡ true → l.distinct_by o ts ≡ Some (false, ts)
+    by (Some s.Distinct) e = absurd cc
+    by o e = refl
 
 pub bound-finds : {us vs ws rest : List Symbol} {word : List ℕ} → Is s.Open us vs → Holds s.Var word vs ws → Is s.Close ws rest → Finds l.bound us (Call functions.Bound (exprs (Var word ∷ []))) rest
 unfolding l.bound
@@ -299,7 +299,7 @@ mutual
   or_tail-finds d (or_more i h k) fits stops zero found le = absurd (omega (arith, is-shorter i))
   or_tail-finds {b = b} d (or_more {ts = ts} {vs = vs} {first = x} {more = xs} i h k) fits stops (suc n) found le =
       more-step (l.or_turn (l.expr d) b) (take >> l.and (l.expr d) b) n found ts vs x (ap (l.or_turn (l.expr d) b) (is-head i)) (take-finds i (and-finds-all d h (omega (arith, is-shorter i)) (or_tail-stops k stops)))
-          (same_found (or_tail-finds d k (omega (arith, is-shorter i, and-shorter h)) stops n (found ++ x ∷ []) (omega (arith, is-shorter i, and-shorter h))) (append_assoc found (x ∷ []) xs))
+      (same_found (or_tail-finds d k (omega (arith, is-shorter i, and-shorter h)) stops n (found ++ x ∷ []) (omega (arith, is-shorter i, and-shorter h))) (append_assoc found (x ∷ []) xs))
 
   and-finds-all : {b : Bool} {ts rest : List Symbol} {a : Expr} (d : ℕ) → IsAnd b ts a rest → length ts ≤ d → Stops 2 rest → Finds (l.and (l.expr d) b) ts a rest
   and-finds-all {b = b} d (and {us = us} {first = first} h k) fits stops =
@@ -311,7 +311,7 @@ mutual
   and_tail-finds d (and_more i h k) fits stops zero found le = absurd (omega (arith, is-shorter i))
   and_tail-finds {b = b} d (and_more {ts = ts} {vs = vs} {first = x} {more = xs} i h k) fits stops (suc n) found le =
       more-step (l.and_turn (l.expr d) b) (take >> l.rel (l.expr d) b) n found ts vs x (ap (l.and_turn (l.expr d) b) (is-head i)) (take-finds i (rel-finds-all d h (omega (arith, is-shorter i)) (and_tail-stops k stops)))
-          (same_found (and_tail-finds d k (omega (arith, is-shorter i, rel-shorter h)) stops n (found ++ x ∷ []) (omega (arith, is-shorter i, rel-shorter h))) (append_assoc found (x ∷ []) xs))
+      (same_found (and_tail-finds d k (omega (arith, is-shorter i, rel-shorter h)) stops n (found ++ x ∷ []) (omega (arith, is-shorter i, rel-shorter h))) (append_assoc found (x ∷ []) xs))
 
   rel-finds-all : {b : Bool} {ts rest : List Symbol} {a : Expr} (d : ℕ) → IsRel b ts a rest → length ts ≤ d → Stops 3 rest → Finds (l.rel (l.expr d) b) ts a rest
   rel-finds-all {b = b} {rest = rest} d (rel_one h) fits stops = rel_one-finds (l.expr d) b (sum-finds-all d h fits (stops-later 3 4 rest (omega arith) stops)) stops
@@ -324,7 +324,7 @@ mutual
   list-finds-all {b = b} d (list_none i j) fits = list_none-finds (l.expr d) b i j
   list-finds-all {b = b} d (list_some {vs = vs} {first = first} i h k j) fits =
       list_some-finds (l.expr d) b i (expr-begins h) (expr-finds d h (omega (arith, is-shorter i)) (list_tail-stops k j))
-          (list_from-finds (l.expr d) b (first ∷ []) (list_tail-finds d k (omega (arith, is-shorter i, expr-shorter h)) j (length vs) (first ∷ []) (omega arith))) j
+      (list_from-finds (l.expr d) b (first ∷ []) (list_tail-finds d k (omega (arith, is-shorter i, expr-shorter h)) j (length vs) (first ∷ []) (omega arith))) j
 
   list_tail-finds : {b : Bool} {ts us rest : List Symbol} {xs : List Expr} (d : ℕ) → ListTail b ts xs us → length ts ≤ d → Is s.Close us rest → (n : ℕ) (found : List Expr) → length ts ≤ n
       → Finds (more (l.list_turn (l.expr d) b) n found) ts (found ++ xs) us
@@ -332,7 +332,7 @@ mutual
   list_tail-finds d (list_more i h k) fits j zero found le = absurd (omega (arith, is-shorter i))
   list_tail-finds {b = b} d (list_more {ts = ts} {vs = vs} {first = x} {more = xs} i h k) fits j (suc n) found le =
       more-step (l.list_turn (l.expr d) b) (take >> l.expr d b) n found ts vs x (ap (l.list_turn (l.expr d) b) (is-head i)) (take-finds i (expr-finds d h (omega (arith, is-shorter i)) (list_tail-stops k j)))
-          (same_found (list_tail-finds d k (omega (arith, is-shorter i, expr-shorter h)) j n (found ++ x ∷ []) (omega (arith, is-shorter i, expr-shorter h))) (append_assoc found (x ∷ []) xs))
+      (same_found (list_tail-finds d k (omega (arith, is-shorter i, expr-shorter h)) j n (found ++ x ∷ []) (omega (arith, is-shorter i, expr-shorter h))) (append_assoc found (x ∷ []) xs))
 
   sum-finds-all : {b : Bool} {ts rest : List Symbol} {a : Expr} (d : ℕ) → IsSum b ts a rest → length ts ≤ d → Stops 4 rest → Finds (l.sum (l.expr d) b) ts a rest
   sum-finds-all {b = b} d (sum {us = us} h k) fits stops =
@@ -344,11 +344,11 @@ mutual
   sum_tail-finds d (sum_plus i h k) fits stops zero found le = absurd (omega (arith, is-shorter i))
   sum_tail-finds {b = b} d (sum_plus {ts = ts} {vs = vs} {first = x} {more = xs} i h k) fits stops (suc n) found le =
       more-step (l.sum_turn (l.expr d) b) (take >> ((λ value. (false, value)) <$> l.product (l.expr d) b)) n found ts vs (false, x) (ap (l.sum_turn (l.expr d) b) (is-head i)) (take-finds i (map-finds (λ value. (false, value)) (product-finds-all d h (omega (arith, is-shorter i)) (sum_tail-stops k stops))))
-          (same_found (sum_tail-finds d k (omega (arith, is-shorter i, product-shorter h)) stops n (found ++ (false, x) ∷ []) (omega (arith, is-shorter i, product-shorter h))) (append_assoc found ((false, x) ∷ []) xs))
+      (same_found (sum_tail-finds d k (omega (arith, is-shorter i, product-shorter h)) stops n (found ++ (false, x) ∷ []) (omega (arith, is-shorter i, product-shorter h))) (append_assoc found ((false, x) ∷ []) xs))
   sum_tail-finds d (sum_minus i h k) fits stops zero found le = absurd (omega (arith, is-shorter i))
   sum_tail-finds {b = b} d (sum_minus {ts = ts} {vs = vs} {first = x} {more = xs} i h k) fits stops (suc n) found le =
       more-step (l.sum_turn (l.expr d) b) (take >> ((λ value. (true, value)) <$> l.product (l.expr d) b)) n found ts vs (true, x) (ap (l.sum_turn (l.expr d) b) (is-head i)) (take-finds i (map-finds (λ value. (true, value)) (product-finds-all d h (omega (arith, is-shorter i)) (sum_tail-stops k stops))))
-          (same_found (sum_tail-finds d k (omega (arith, is-shorter i, product-shorter h)) stops n (found ++ (true, x) ∷ []) (omega (arith, is-shorter i, product-shorter h))) (append_assoc found ((true, x) ∷ []) xs))
+      (same_found (sum_tail-finds d k (omega (arith, is-shorter i, product-shorter h)) stops n (found ++ (true, x) ∷ []) (omega (arith, is-shorter i, product-shorter h))) (append_assoc found ((true, x) ∷ []) xs))
 
   product-finds-all : {b : Bool} {ts rest : List Symbol} {a : Expr} (d : ℕ) → IsProduct b ts a rest → length ts ≤ d → Stops 5 rest → Finds (l.product (l.expr d) b) ts a rest
   product-finds-all {b = b} d (product {us = us} h k) fits stops =
@@ -360,11 +360,11 @@ mutual
   product_tail-finds d (product_times i h k) fits stops zero found le = absurd (omega (arith, is-shorter i))
   product_tail-finds {b = b} d (product_times {ts = ts} {vs = vs} {first = x} {more = xs} i h k) fits stops (suc n) found le =
       more-step (l.product_turn (l.expr d) b) (take >> ((λ value. (false, value)) <$> l.unary (l.expr d) b)) n found ts vs (false, x) (ap (l.product_turn (l.expr d) b) (is-head i)) (take-finds i (map-finds (λ value. (false, value)) (unary-finds-all d h (omega (arith, is-shorter i)) (product_tail-stops k stops))))
-          (same_found (product_tail-finds d k (omega (arith, is-shorter i, unary-shorter h)) stops n (found ++ (false, x) ∷ []) (omega (arith, is-shorter i, unary-shorter h))) (append_assoc found ((false, x) ∷ []) xs))
+      (same_found (product_tail-finds d k (omega (arith, is-shorter i, unary-shorter h)) stops n (found ++ (false, x) ∷ []) (omega (arith, is-shorter i, unary-shorter h))) (append_assoc found ((false, x) ∷ []) xs))
   product_tail-finds d (product_over i h k) fits stops zero found le = absurd (omega (arith, is-shorter i))
   product_tail-finds {b = b} d (product_over {ts = ts} {vs = vs} {first = x} {more = xs} i h k) fits stops (suc n) found le =
       more-step (l.product_turn (l.expr d) b) (take >> ((λ value. (true, value)) <$> l.unary (l.expr d) b)) n found ts vs (true, x) (ap (l.product_turn (l.expr d) b) (is-head i)) (take-finds i (map-finds (λ value. (true, value)) (unary-finds-all d h (omega (arith, is-shorter i)) (product_tail-stops k stops))))
-          (same_found (product_tail-finds d k (omega (arith, is-shorter i, unary-shorter h)) stops n (found ++ (true, x) ∷ []) (omega (arith, is-shorter i, unary-shorter h))) (append_assoc found ((true, x) ∷ []) xs))
+      (same_found (product_tail-finds d k (omega (arith, is-shorter i, unary-shorter h)) stops n (found ++ (true, x) ∷ []) (omega (arith, is-shorter i, unary-shorter h))) (append_assoc found ((true, x) ∷ []) xs))
 
   unary-finds-all : {b : Bool} {ts rest : List Symbol} {a : Expr} (d : ℕ) → IsUnary b ts a rest → length ts ≤ d → Stops 6 rest → Finds (l.unary (l.expr d) b) ts a rest
   unary-finds-all d (bare h) fits stops = bare-finds-all d h fits stops
@@ -394,11 +394,11 @@ mutual
   aggregate-atom-finds d (count_all i j e k m) fits = aggregated-finds (l.expr d) i (count_all-finds (l.expr d) true j (distinct-finds e (ap not_distinct_at (is-head k))) k m)
   aggregate-atom-finds d (aggregate {ws = ws} i j e h m) fits =
       aggregated-finds (l.expr d) i (aggregate-finds (l.expr d) true j (distinct-finds e (expr-not_distinct (head ws) (expr-begins h))) (expr-begins h)
-          (expr-finds d h (omega (arith, is-shorter i, is-shorter j, distinct-shorter e)) (is-stops 1 m (omega arith))) m)
+      (expr-finds d h (omega (arith, is-shorter i, is-shorter j, distinct-shorter e)) (is-stops 1 m (omega arith))) m)
 
   aggregate-unary-finds : {ts rest : List Symbol} {a : Expr} (d : ℕ) → IsAggregate ts a rest → length ts ≤ d → Finds (l.unary (l.expr d) true) ts a rest
   aggregate-unary-finds d (count_all i j e k m) fits =
       bare-plain (l.expr d) true (ap signless (is-head i)) (aggregated-finds (l.expr d) i (count_all-finds (l.expr d) true j (distinct-finds e (ap not_distinct_at (is-head k))) k m))
   aggregate-unary-finds d (aggregate {ws = ws} i j e h m) fits =
       bare-plain (l.expr d) true (ap signless (is-head i)) (aggregated-finds (l.expr d) i (aggregate-finds (l.expr d) true j (distinct-finds e (expr-not_distinct (head ws) (expr-begins h))) (expr-begins h)
-          (expr-finds d h (omega (arith, is-shorter i, is-shorter j, distinct-shorter e)) (is-stops 1 m (omega arith))) m))
+      (expr-finds d h (omega (arith, is-shorter i, is-shorter j, distinct-shorter e)) (is-stops 1 m (omega arith))) m))

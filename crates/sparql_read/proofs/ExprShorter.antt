@@ -1,22 +1,8 @@
 -- What is of the grammar of expressions takes symbols.
-use Rattle.std.proofs.Common.{◌≡◌, ℕ, zero, suc, ◌+◌, ◌<◌, ◌≤◌, Bool, true, false, List, [], ◌∷◌, ◌++◌, length, Option, Some, None, refl, sym, subst, ap, ◌∙◌, append_assoc, codes, arith}
-use Rattle.term_core.specs.declared.term.Term.{Term}
-use Rattle.sparql_tree.specs.Exprs.{Expr, Var, Const, Or, And, Not, Plus, Minus, Compare, OneOf, Sum, Product, Call, Aggregate, AggregateAll, exprs, operands}
-use Rattle.sparql_tree.specs.declared.words.AggregateKind.{AggregateKind}
-use Rattle.sparql_tree.specs.declared.words.AggregateKind.TheVariants as kinds
-use Rattle.sparql_tree.specs.declared.words.CompareOp.{CompareOp}
-use Rattle.sparql_tree.specs.declared.words.Function.{Function}
-use Rattle.sparql_tree.specs.declared.words.Function.TheVariants as functions
-use Rattle.sparql_symbol.specs.declared.symbol.Shape.{Shape}
-use Rattle.sparql_symbol.specs.declared.symbol.Shape.TheVariants as s
+use Rattle.std.proofs.Common.{◌<◌, ◌≤◌, Bool, List, length, arith}
+use Rattle.sparql_tree.specs.Exprs.{Expr}
 use Rattle.sparql_symbol.specs.declared.symbol.Symbol.{Symbol}
-use Rattle.sparql_read.specs.Symbols.{Is, Holds}
-use Rattle.sparql_read.specs.Parser.{Parser, head, next, value, ◌>>=◌, ◌>>◌, ◌<<◌, ◌<$>◌, pure, refuse, peek, take, spelled, more, all_more, open_paren, close_paren, name}
-use Rattle.sparql_read.specs.Terms.{IsNumber, IsTerm}
-use Rattle.sparql_read.specs.Terms as terms
-use Rattle.sparql_read.specs.TermReading.{term, number}
-use Rattle.sparql_read.specs.ExprReading as l
-use Rattle.sparql_read.specs.Expressions.{IsDistinct, distinct, not_distinct, IsExpr, or, OrTail, or_end, or_more, IsAnd, and, AndTail, and_end, and_more, IsRel, rel_one, rel_compare, rel_in, rel_not_in, IsList, list_none, list_some, ListTail, list_end, list_more, IsSum, sum, SumTail, sum_end, sum_plus, sum_minus, IsProduct, product, ProductTail, product_end, product_times, product_over, IsUnary, bare, not, plus, minus, IsAtom, constant, variable, parens, called, aggregated, IsCall, call, bound, IsAggregate, count_all, aggregate, or_node, and_node, sum_node, product_node, op_of, begins_number, takes}
+use Rattle.sparql_read.specs.Expressions.{IsDistinct, distinct, not_distinct, IsExpr, or, OrTail, or_end, or_more, IsAnd, and, AndTail, and_end, and_more, IsRel, rel_one, rel_compare, rel_in, rel_not_in, IsList, list_none, list_some, ListTail, list_end, list_more, IsSum, sum, SumTail, sum_end, sum_plus, sum_minus, IsProduct, product, ProductTail, product_end, product_times, product_over, IsUnary, bare, not, plus, minus, IsAtom, constant, variable, parens, called, aggregated, IsCall, call, bound, IsAggregate, count_all, aggregate}
 use Rattle.sparql_read.proofs.Steps.{is-shorter, holds-shorter}
 use Rattle.sparql_read.proofs.TermLaws.{term-shorter}
 

@@ -1,8 +1,6 @@
 -- What the reader of expressions finds is of the grammar.
-use Rattle.std.proofs.Common.{◌≡◌, ℕ, zero, suc, Bool, true, false, List, [], ◌∷◌, ◌++◌, length, Option, Some, None, refl, sym, subst, ap, ◌∙◌, codes}
-use Rattle.std.specs.Prelude.{if◌then◌else◌}
-use Rattle.term_core.specs.declared.term.Term.{Term}
-use Rattle.sparql_tree.specs.Exprs.{Expr, Var, Const, Or, And, Not, Plus, Minus, Compare, OneOf, Sum, Product, Call, Aggregate, AggregateAll, exprs, operands}
+use Rattle.std.proofs.Common.{◌≡◌, ℕ, zero, suc, Bool, true, false, List, [], ◌∷◌, length, Option, Some, None, refl, sym, subst, codes}
+use Rattle.sparql_tree.specs.Exprs.{Expr, Plus, Minus}
 use Rattle.sparql_tree.specs.declared.words.AggregateKind.{AggregateKind}
 use Rattle.sparql_tree.specs.declared.words.AggregateKind.TheVariants as kinds
 use Rattle.sparql_tree.specs.declared.words.CompareOp.{CompareOp}
@@ -12,12 +10,12 @@ use Rattle.sparql_symbol.specs.declared.symbol.Shape.{Shape}
 use Rattle.sparql_symbol.specs.declared.symbol.Shape.TheVariants as s
 use Rattle.sparql_symbol.specs.declared.symbol.Symbol.{Symbol}
 use Rattle.sparql_read.specs.Symbols.{Is, Holds}
-use Rattle.sparql_read.specs.Parser.{Parser, head, next, value, ◌>>=◌, ◌>>◌, ◌<<◌, ◌<$>◌, pure, refuse, peek, take, spelled, all_more, open_paren, close_paren, name}
+use Rattle.sparql_read.specs.Parser.{Parser, head, next, ◌>>=◌, ◌<<◌, peek, open_paren, close_paren, name}
 use Rattle.sparql_read.specs.Terms.{IsNumber, IsTerm}
 use Rattle.sparql_read.specs.Terms as terms
 use Rattle.sparql_read.specs.TermReading.{term, number}
 use Rattle.sparql_read.specs.ExprReading as l
-use Rattle.sparql_read.specs.Expressions.{IsDistinct, distinct, not_distinct, IsExpr, or, OrTail, or_end, or_more, IsAnd, and, AndTail, and_end, and_more, IsRel, rel_one, rel_compare, rel_in, rel_not_in, IsList, list_none, list_some, ListTail, list_end, list_more, IsSum, sum, SumTail, sum_end, sum_plus, sum_minus, IsProduct, product, ProductTail, product_end, product_times, product_over, IsUnary, bare, not, plus, minus, IsAtom, constant, variable, parens, called, aggregated, IsCall, call, bound, IsAggregate, count_all, aggregate, or_node, and_node, sum_node, product_node, op_of, begins_number, takes}
+use Rattle.sparql_read.specs.Expressions.{IsDistinct, distinct, not_distinct, IsExpr, or, OrTail, or_end, or_more, IsAnd, and, AndTail, and_end, and_more, IsRel, rel_one, rel_compare, rel_in, rel_not_in, IsList, list_none, list_some, ListTail, list_end, list_more, IsSum, sum, SumTail, sum_end, sum_plus, sum_minus, IsProduct, product, ProductTail, product_end, product_times, product_over, IsUnary, bare, not, plus, minus, IsAtom, constant, variable, parens, called, aggregated, IsCall, call, bound, IsAggregate, count_all, aggregate, or_node, and_node, sum_node, product_node, begins_number, takes}
 use Rattle.sparql_read.proofs.Steps.{is-next, holds-next, Good, then_good, weaken, Adds, Extends, Turns, all_more-sound, open-sound, close-sound, name-sound}
 use Rattle.sparql_read.proofs.TermLaws.{number-sound, term-sound}
 
@@ -47,7 +45,7 @@ pub bound-sound : (b : Bool) (ts us : List Symbol) → Is (s.Function functions.
 unfolding l.bound
 bound-sound b ts us i = then_good (λ (x : Unit {0}) vs. Is s.Open us vs) (IsCall b ts) (open_paren us) _ (open-sound us) (λ x vs j.
     then_good (λ word ws. Holds s.Var word vs ws) (IsCall b ts) (name vs) _ (name-sound vs) (λ word ws k.
-        then_good (λ (y : Unit {0}) rest. Is s.Close ws rest) (IsCall b ts) (close_paren ws) _ (close-sound ws) (λ y rest m. bound i j k m)))
+    then_good (λ (y : Unit {0}) rest. Is s.Close ws rest) (IsCall b ts) (close_paren ws) _ (close-sound ws) (λ y rest m. bound i j k m)))
 
 module _ (expr : Bool → Parser Expr) (nested : (b : Bool) (ts : List Symbol) → Good (IsExpr b ts) (expr b ts)) (b : Bool) where
   list_turn-sound : (ts : List Symbol) (o : Option Shape) → head ts ≡ o → Turns (ListTail b) ts (l.list_turn expr b o)
@@ -61,7 +59,7 @@ module _ (expr : Bool → Parser Expr) (nested : (b : Bool) (ts : List Symbol) �
   list_some-sound : (ts us : List Symbol) → Is s.Open ts us → Good (IsList b ts) ((expr b >>= (λ first. l.list_from expr b (first ∷ []) << close_paren)) us)
   list_some-sound ts us i = then_good (IsExpr b us) (IsList b ts) (expr b us) _ (nested b us) (λ first vs h.
       closed-sound (Adds (ListTail b vs) (first ∷ [])) (IsList b ts) (l.list_from expr b (first ∷ [])) vs (list_from-sound (first ∷ []) vs)
-          (λ all ws rest k m. subst (λ v. IsList b ts v rest) (sym k.1) (list_some i h k.2 m)))
+      (λ all ws rest k m. subst (λ v. IsList b ts v rest) (sym k.1) (list_some i h k.2 m)))
 
   list_by-sound : (ts us : List Symbol) (o : Option Shape) → head us ≡ o → Is s.Open ts us → Good (IsList b ts) (l.list_by expr b o us)
   list_by-sound ts us (Some s.Close) h i = list_none i (is-next s.Close us h)
@@ -75,9 +73,9 @@ module _ (expr : Bool → Parser Expr) (nested : (b : Bool) (ts : List Symbol) �
       → Good (IsCall b ts) (l.taken function arguments rest)
   taken-sound function arguments ts us rest i k = go (takes function (length arguments)) refl
     where
-    go : (fits : Bool) → takes function (length arguments) ≡ fits → Good (IsCall b ts) (l.taken_if fits function arguments rest)
-    go true e = call i k e
-    go false e = tt
+      go : (fits : Bool) → takes function (length arguments) ≡ fits → Good (IsCall b ts) (l.taken_if fits function arguments rest)
+      go true e = call i k e
+      go false e = tt
 
   called-sound : (function : Function) (ts us : List Symbol) → Is (s.Function function) ts us
       → Good (IsCall b ts) ((l.list expr b >>= (λ arguments. l.taken function arguments)) us)
@@ -98,14 +96,14 @@ module _ (expr : Bool → Parser Expr) (nested : (b : Bool) (ts : List Symbol) �
   counted-sound kind once ts us vs ws (Some s.Star) h i j d = starred-sound kind once ts us vs ws i j d h
   counted-sound kind once ts us vs ws o h i j d =
       then_good (IsExpr false ws) (λ a rest. (last : List Symbol) → Is s.Close rest last → IsAggregate ts a last) (expr false ws) _ (nested false ws)
-          (λ a rest k last m. aggregate i j d k m)
+      (λ a rest k last m. aggregate i j d k m)
 
   pub aggregate-sound : (kind : AggregateKind) (ts us : List Symbol) → Is (s.Aggregate kind) ts us → Good (IsAggregate ts) (l.aggregate expr b kind us)
   unfolding l.aggregate
   aggregate-sound kind ts us i = then_good (λ (x : Unit {0}) vs. Is s.Open us vs) (IsAggregate ts) (open_paren us) _ (open-sound us) (λ x vs j.
       then_good (IsDistinct vs) (IsAggregate ts) (l.distinct vs) _ (distinct-sound vs) (λ once ws d.
-          closed-sound (λ a rest. (last : List Symbol) → Is s.Close rest last → IsAggregate ts a last) (IsAggregate ts) (peek >>= l.counted expr b kind once) ws
-              (counted-sound kind once ts us vs ws (head ws) refl i j d) (λ a vs2 rest k m. k rest m)))
+      closed-sound (λ a rest. (last : List Symbol) → Is s.Close rest last → IsAggregate ts a last) (IsAggregate ts) (peek >>= l.counted expr b kind once) ws
+      (counted-sound kind once ts us vs ws (head ws) refl i j d) (λ a vs2 rest k m. k rest m)))
 
   aggregate_if-sound : (allowed : Bool) (kind : AggregateKind) (ts : List Symbol) → head ts ≡ Some (s.Aggregate kind) → Good (IsAtom allowed ts) (l.aggregate_if expr b allowed kind ts)
   aggregate_if-sound true kind ts h = weaken (IsAggregate ts) (IsAtom true ts) _ (aggregate-sound kind ts (next ts) (is-next (s.Aggregate kind) ts h)) (λ a rest k. aggregated k)
@@ -154,7 +152,7 @@ module _ (expr : Bool → Parser Expr) (nested : (b : Bool) (ts : List Symbol) �
   unfolding l.product
   product-sound ts = then_good (IsUnary b ts) (IsProduct b ts) (l.unary expr b ts) _ (unary-sound ts) (λ first us h.
       then_good (Adds (ProductTail b us) []) (IsProduct b ts) (l.product_rest expr b us) _ (product_rest-sound us)
-          (λ all rest k. subst (λ v. IsProduct b ts (product_node first v) rest) (sym k.1) (product h k.2)))
+      (λ all rest k. subst (λ v. IsProduct b ts (product_node first v) rest) (sym k.1) (product h k.2)))
 
   sum_turn-sound : (ts : List Symbol) (o : Option Shape) → head ts ≡ o → Turns (SumTail b) ts (l.sum_turn expr b o)
   sum_turn-sound ts (Some s.Plus) h = then_good (IsProduct b (next ts)) (Extends (SumTail b) ts) (l.product expr b (next ts)) _ (product-sound (next ts)) (λ x us k xs rest t. sum_plus (is-next s.Plus ts h) k t)
@@ -169,7 +167,7 @@ module _ (expr : Bool → Parser Expr) (nested : (b : Bool) (ts : List Symbol) �
   unfolding l.sum
   sum-sound ts = then_good (IsProduct b ts) (IsSum b ts) (l.product expr b ts) _ (product-sound ts) (λ first us h.
       then_good (Adds (SumTail b us) []) (IsSum b ts) (l.sum_rest expr b us) _ (sum_rest-sound us)
-          (λ all rest k. subst (λ v. IsSum b ts (sum_node first v) rest) (sym k.1) (sum h k.2)))
+      (λ all rest k. subst (λ v. IsSum b ts (sum_node first v) rest) (sym k.1) (sum h k.2)))
 
   compared-sound : (ts us : List Symbol) (left : Expr) (o : Option Shape) (op : Option CompareOp) → head us ≡ o → l.op_at o ≡ op → IsSum b ts left us
       → Good (IsRel b ts) (l.compared expr b left op us)
@@ -200,7 +198,7 @@ module _ (expr : Bool → Parser Expr) (nested : (b : Bool) (ts : List Symbol) �
   unfolding l.and
   and-sound ts = then_good (IsRel b ts) (IsAnd b ts) (l.rel expr b ts) _ (rel-sound ts) (λ first us h.
       then_good (Adds (AndTail b us) (first ∷ [])) (IsAnd b ts) (l.and_from expr b (first ∷ []) us) _ (and_from-sound (first ∷ []) us)
-          (λ all rest k. subst (λ v. IsAnd b ts (and_node v) rest) (sym k.1) (and h k.2)))
+      (λ all rest k. subst (λ v. IsAnd b ts (and_node v) rest) (sym k.1) (and h k.2)))
 
   or_turn-sound : (ts : List Symbol) (o : Option Shape) → head ts ≡ o → Turns (OrTail b) ts (l.or_turn expr b o)
   or_turn-sound ts (Some s.Or) h = weaken (IsAnd b (next ts)) (Extends (OrTail b) ts) _ (and-sound (next ts)) (λ x us k xs rest t. or_more (is-next s.Or ts h) k t)
@@ -214,7 +212,7 @@ module _ (expr : Bool → Parser Expr) (nested : (b : Bool) (ts : List Symbol) �
   unfolding l.or
   or-sound ts = then_good (IsAnd b ts) (IsExpr b ts) (l.and expr b ts) _ (and-sound ts) (λ first us h.
       then_good (Adds (OrTail b us) (first ∷ [])) (IsExpr b ts) (l.or_from expr b (first ∷ []) us) _ (or_from-sound (first ∷ []) us)
-          (λ all rest k. subst (λ v. IsExpr b ts (or_node v) rest) (sym k.1) (or h k.2)))
+      (λ all rest k. subst (λ v. IsExpr b ts (or_node v) rest) (sym k.1) (or h k.2)))
 
 pub expr-sound : (room : ℕ) (b : Bool) (ts : List Symbol) → Good (IsExpr b ts) (l.expr room b ts)
 unfolding l.expr

@@ -1,31 +1,29 @@
 -- The grammar of group graph patterns and its reader agree.
-use Rattle.std.proofs.Common.{◌≡◌, ℕ, zero, suc, ◌+◌, ◌<◌, ◌≤◌, Bool, true, false, List, [], ◌∷◌, ◌++◌, length, Option, Some, None, refl, sym, subst, ap, ◌∙◌, append_assoc, arith, ◌⊎◌, inl, inr}
-use Rattle.term_core.specs.Mappings.{Name, Row}
-use Rattle.sparql_tree.specs.Exprs.{Expr, Var, Call, exprs}
-use Rattle.sparql_tree.specs.Groups.{Group, GroupOf, Element, Union, Optional, Minus, Filter, Bind, Values, elements, groups}
+use Rattle.std.proofs.Common.{◌≡◌, ℕ, zero, suc, ◌<◌, ◌≤◌, Bool, true, false, List, [], ◌∷◌, ◌++◌, length, Option, Some, None, refl, sym, subst, ap, append_assoc, arith, ◌⊎◌, inl, inr}
+use Rattle.term_core.specs.Mappings.{Name}
+use Rattle.sparql_tree.specs.Exprs.{Expr}
+use Rattle.sparql_tree.specs.Groups.{Group, GroupOf, Element, Union, Optional, Minus, Filter, Bind, elements, groups}
 use Rattle.sparql_tree.specs.declared.words.AggregateKind.{AggregateKind}
 use Rattle.sparql_tree.specs.declared.words.Function.{Function}
-use Rattle.sparql_tree.specs.declared.words.Function.TheVariants as functions
 use Rattle.sparql_symbol.specs.declared.symbol.Shape.{Shape}
 use Rattle.sparql_symbol.specs.declared.symbol.Shape.TheVariants as s
 use Rattle.sparql_symbol.specs.declared.symbol.Symbol.{Symbol}
 use Rattle.sparql_read.specs.Symbols.{Is, Holds}
-use Rattle.sparql_read.specs.Parser.{Parser, head, next, value, ◌>>=◌, ◌>>◌, ◌<<◌, ◌<$>◌, pure, peek, take, more, all_more, repeat, all_steps, open_paren, close_paren, open_brace, close_brace, as_word, name}
+use Rattle.sparql_read.specs.Parser.{Parser, head, next, ◌>>=◌, ◌>>◌, ◌<$>◌, pure, take, more, all_more, repeat, all_steps, open_paren, close_paren, open_brace, close_brace, as_word, name}
 use Rattle.sparql_read.specs.Expressions.{IsExpr, IsCall, call, IsAggregate, count_all, aggregate}
 use Rattle.sparql_read.specs.Expressions as e
 use Rattle.sparql_read.specs.ExprReading as x
 use Rattle.sparql_read.specs.Triples.{IsTriples, no_triples, triples as triples_there}
 use Rattle.sparql_read.specs.TripleReading.{triples, begins_node}
-use Rattle.sparql_read.specs.Values.{IsValues}
 use Rattle.sparql_read.specs.ValueReading as v
 use Rattle.sparql_read.specs.Groups.{IsConstraint, constraint, constraint_call, constraint_aggregate, IsPoint, no_point, point, IsGroup, group, GroupTail, group_end, group_more, IsElement, union, optional, without, filter, bind, values, UnionTail, union_end, union_more}
 use Rattle.sparql_read.specs.GroupReading as r
-use Rattle.sparql_read.proofs.Steps.{is-next, holds-next, is-head, holds-head, is-shorter, holds-shorter, Good, then_good, weaken, Adds, none_more, Extends, Turns, all_more-sound, Grows, GrowsBy, all_steps-sound, open-sound, close-sound, name-sound, open_brace-sound, close_brace-sound, as-sound, Finds, same_found, more-stop, more-step, repeat-stop, repeat-step, open-finds, close-finds, name-finds, open_brace-finds, close_brace-finds, as-finds, then-finds, map-finds, take-finds, at-finds, closed-finds}
+use Rattle.sparql_read.proofs.Steps.{is-next, is-head, is-shorter, holds-shorter, Good, then_good, weaken, Adds, none_more, Extends, Turns, all_more-sound, Grows, GrowsBy, all_steps-sound, open-sound, close-sound, name-sound, open_brace-sound, close_brace-sound, as-sound, Finds, same_found, more-stop, more-step, repeat-stop, repeat-step, open-finds, close-finds, name-finds, open_brace-finds, close_brace-finds, as-finds, then-finds, map-finds, take-finds, at-finds, closed-finds}
 use Rattle.sparql_read.proofs.ExprSound.{closed-sound, call-sound, aggregate-sound, expr-sound}
 use Rattle.sparql_read.proofs.ExprShorter.{expr-shorter, call-shorter, aggregate-shorter, distinct-shorter}
-use Rattle.sparql_read.proofs.ExprEnds.{begins_expr, expr-begins, is-stops}
+use Rattle.sparql_read.proofs.ExprEnds.{expr-begins, is-stops}
 use Rattle.sparql_read.proofs.ExprComplete.{expr-finds, list-finds-all, call-finds, call_bound-finds, bound-finds, count_all-finds, aggregate-finds, distinct-finds, expr-not_distinct, not_distinct_at}
-use Rattle.sparql_read.proofs.TripleLaws.{triples-sound, triples-shorter, triples-finds, triples-begin, block-begins, Ends, EndsAt, bounds, is-ends}
+use Rattle.sparql_read.proofs.TripleLaws.{triples-sound, triples-shorter, triples-finds, triples-begin, block-begins, Ends, EndsAt, is-ends}
 use Rattle.sparql_read.proofs.ValueLaws.{HasValues, values-sound, values-shorter, values-finds}
 
 -- ---- sound
@@ -58,13 +56,12 @@ module _ (expr : Bool → Parser Expr) (nested : (b : Bool) (ts : List Symbol) �
   unfolding r.bound
   bound-sound ts us i = then_good (λ (u : Unit {0}) vs. Is s.Open us vs) (IsElement ts) (open_paren us) _ (open-sound us) (λ u vs j.
       then_good (IsExpr false vs) (IsElement ts) (expr false vs) _ (nested false vs) (λ a ws k.
-          then_good (λ (w : Unit {0}) xs. Is s.As ws xs) (IsElement ts) (as_word ws) _ (as-sound ws) (λ w xs l.
-              then_good (λ word ys. Holds s.Var word xs ys) (IsElement ts) (name xs) _ (name-sound xs) (λ word ys h.
-                  then_good (λ (z : Unit {0}) rest. Is s.Close ys rest) (IsElement ts) (close_paren ys) _ (close-sound ys) (λ z rest m. bind i j k l h m)))))
+      then_good (λ (w : Unit {0}) xs. Is s.As ws xs) (IsElement ts) (as_word ws) _ (as-sound ws) (λ w xs l.
+      then_good (λ word ys. Holds s.Var word xs ys) (IsElement ts) (name xs) _ (name-sound xs) (λ word ys h.
+      then_good (λ (z : Unit {0}) rest. Is s.Close ys rest) (IsElement ts) (close_paren ys) _ (close-sound ys) (λ z rest m. bind i j k l h m)))))
 
 module _ (expr : Bool → Parser Expr) (nested : (b : Bool) (ts : List Symbol) → Good (IsExpr b ts) (expr b ts))
     (inner : Parser Group) (inside : (ts : List Symbol) → Good (IsGroup ts) (inner ts)) where
-
   union_turn-sound : (ts : List Symbol) (o : Option Shape) → head ts ≡ o → Turns UnionTail ts (r.union_turn expr inner o)
   union_turn-sound ts (Some s.Union) h = weaken (IsGroup (next ts)) (Extends UnionTail ts) _ (inside (next ts)) (λ g us k xs rest t. union_more (is-next s.Union ts h) k t)
   union_turn-sound ts o h = tt
@@ -76,7 +73,7 @@ module _ (expr : Bool → Parser Expr) (nested : (b : Bool) (ts : List Symbol) �
   groups-sound : (ts : List Symbol) → Good (IsElement ts) ((inner >>= (λ first. (λ all. Union (groups all)) <$> r.union_from expr inner (first ∷ []))) ts)
   groups-sound ts = then_good (IsGroup ts) (IsElement ts) (inner ts) _ (inside ts) (λ first us h.
       then_good (Adds (UnionTail us) (first ∷ [])) (IsElement ts) (r.union_from expr inner (first ∷ []) us) _ (union_from-sound (first ∷ []) us)
-          (λ all rest k. subst (λ w. IsElement ts (Union (groups w)) rest) (sym k.1) (union h k.2)))
+      (λ all rest k. subst (λ w. IsElement ts (Union (groups w)) rest) (sym k.1) (union h k.2)))
 
   element_by-sound : (ts : List Symbol) (o : Option Shape) → head ts ≡ o → Good (IsElement ts) (r.element_by expr inner o ts)
   element_by-sound ts (Some s.Optional) h = then_good (IsGroup (next ts)) (IsElement ts) (inner (next ts)) _ (inside (next ts)) (λ g rest k. optional (is-next s.Optional ts h) k)
@@ -96,8 +93,8 @@ module _ (expr : Bool → Parser Expr) (nested : (b : Bool) (ts : List Symbol) �
   unfolding r.step
   step-sound found ts = then_good (IsElement ts) (Grows GroupTail ts found) (r.element expr inner ts) _ (element-sound ts) (λ y us h.
       then_good (λ (u : Unit {0}) vs. IsPoint us vs) (Grows GroupTail ts found) (r.point us) _ (point-sound us) (λ u vs d.
-          then_good (IsTriples vs) (Grows GroupTail ts found) (triples vs) _ (triples-sound vs) (λ after ws t.
-              (y ∷ after, append_assoc found (y ∷ []) after, λ xs rest k. group_more h d t k))))
+      then_good (IsTriples vs) (Grows GroupTail ts found) (triples vs) _ (triples-sound vs) (λ after ws t.
+      (y ∷ after, append_assoc found (y ∷ []) after, λ xs rest k. group_more h d t k))))
 
   body_turn-sound : (ts : List Symbol) (o : Option Shape) → GrowsBy GroupTail ts (r.body_turn expr inner o)
   body_turn-sound ts (Some s.CloseBrace) = tt
@@ -111,9 +108,9 @@ module _ (expr : Bool → Parser Expr) (nested : (b : Bool) (ts : List Symbol) �
   unfolding r.braced
   braced-sound ts = then_good (λ (u : Unit {0}) us. Is s.OpenBrace ts us) (IsGroup ts) (open_brace ts) _ (open_brace-sound ts) (λ u us i.
       then_good (IsTriples us) (IsGroup ts) (triples us) _ (triples-sound us) (λ first vs t.
-          then_good (Adds (GroupTail vs) first) (IsGroup ts) (r.body expr inner first vs) _ (body-sound first vs) (λ all ws k.
-              then_good (λ (w : Unit {0}) rest. Is s.CloseBrace ws rest) (IsGroup ts) (close_brace ws) _ (close_brace-sound ws) (λ w rest j.
-                  subst (λ es. IsGroup ts (GroupOf (elements es)) rest) (sym k.1) (group i t k.2 j)))))
+      then_good (Adds (GroupTail vs) first) (IsGroup ts) (r.body expr inner first vs) _ (body-sound first vs) (λ all ws k.
+      then_good (λ (w : Unit {0}) rest. Is s.CloseBrace ws rest) (IsGroup ts) (close_brace ws) _ (close_brace-sound ws) (λ w rest j.
+      subst (λ es. IsGroup ts (GroupOf (elements es)) rest) (sym k.1) (group i t k.2 j)))))
 
 pub group-sound : (room : ℕ) (ts : List Symbol) → Good (IsGroup ts) (r.group room ts)
 unfolding r.group
@@ -244,7 +241,7 @@ aggregate-constraint : {ts rest : List Symbol} {a : Expr} (d : ℕ) → IsAggreg
 aggregate-constraint d (count_all i j k l m) fits = constraint-aggregated (x.expr d) i (count_all-finds (x.expr d) true j (distinct-finds k (ap not_distinct_at (is-head l))) l m)
 aggregate-constraint d (aggregate {ws = ws} i j k h m) fits =
     constraint-aggregated (x.expr d) i (aggregate-finds (x.expr d) true j (distinct-finds k (expr-not_distinct (head ws) (expr-begins h))) (expr-begins h)
-        (expr-finds d h (omega (arith, is-shorter i, is-shorter j, distinct-shorter k)) (is-stops 1 m (omega arith))) m)
+    (expr-finds d h (omega (arith, is-shorter i, is-shorter j, distinct-shorter k)) (is-stops 1 m (omega arith))) m)
 
 pub constraint-finds : {b : Bool} {ts rest : List Symbol} {a : Expr} (d : ℕ) → IsConstraint b ts a rest → length ts ≤ d → Finds (r.constraint (x.expr d) b) ts a rest
 constraint-finds {b = b} d (constraint i h j) fits = constraint-parens (x.expr d) b i (expr-finds d h (omega (arith, is-shorter i)) (is-stops 1 j (omega arith))) j
@@ -309,7 +306,7 @@ mutual
   group-finds zero (group i t k j) fits = absurd (omega arith)
   group-finds (suc d) (group {vs = vs} {first = first} i t k j) fits =
       group-step d (braced-finds (x.expr d) (r.group d) i (triples-finds t (group_tail-ends k j))
-          (group_tail-finds d k (omega (arith, is-shorter i, triples-shorter t)) j (length vs) first (omega arith)) j)
+      (group_tail-finds d k (omega (arith, is-shorter i, triples-shorter t)) j (length vs) first (omega arith)) j)
 
   group_tail-finds : {ts us rest : List Symbol} {xs : List Element} (d : ℕ) → GroupTail ts xs us → length ts < d → Is s.CloseBrace us rest → (n : ℕ) (found : List Element) → length ts ≤ n
       → Finds (repeat (r.body_turn (x.expr d) (r.group d)) n found) ts (found ++ xs) us
@@ -318,10 +315,10 @@ mutual
   group_tail-finds d (group_more h e t k) fits j zero found le = absurd (omega (arith, element-shorter h))
   group_tail-finds d (group_more {ts = ts} {ws = ws} {x = y} {after = after} {more = xs} h e t k) fits j (suc n) found le =
       repeat-step (r.body_turn (x.expr d) (r.group d)) (r.step (x.expr d) (r.group d)) n found (found ++ (y ∷ after)) ts ws
-          (body_turn-step (x.expr d) (r.group d) (head ts) (element-begins h))
-          (step-finds (x.expr d) (r.group d) found (element-finds d h fits (point-no_union e t k j)) (point-finds e t (group_tail-ends k j)) (triples-finds t (group_tail-ends k j)))
-          (same_found (group_tail-finds d k (omega (arith, element-shorter h, point-shorter e, triples-shorter t)) j n (found ++ (y ∷ after)) (omega (arith, element-shorter h, point-shorter e, triples-shorter t)))
-              (append_assoc found (y ∷ after) xs))
+      (body_turn-step (x.expr d) (r.group d) (head ts) (element-begins h))
+      (step-finds (x.expr d) (r.group d) found (element-finds d h fits (point-no_union e t k j)) (point-finds e t (group_tail-ends k j)) (triples-finds t (group_tail-ends k j)))
+      (same_found (group_tail-finds d k (omega (arith, element-shorter h, point-shorter e, triples-shorter t)) j n (found ++ (y ∷ after)) (omega (arith, element-shorter h, point-shorter e, triples-shorter t)))
+      (append_assoc found (y ∷ after) xs))
 
   element-finds : {ts rest : List Symbol} {a : Element} (d : ℕ) → IsElement ts a rest → length ts < d → no_union (head rest) ≡ true → Finds (r.element (x.expr d) (r.group d)) ts a rest
   element-finds d (union {us = us} {first = first} h k) fits stop =
@@ -338,4 +335,4 @@ mutual
   union_tail-finds d (union_more i h k) fits stop zero found le = absurd (omega (arith, is-shorter i))
   union_tail-finds d (union_more {ts = ts} {vs = vs} {first = first} {more = xs} i h k) fits stop (suc n) found le =
       more-step (r.union_turn (x.expr d) (r.group d)) (take >> r.group d) n found ts vs first (ap (r.union_turn (x.expr d) (r.group d)) (is-head i)) (take-finds i (group-finds d h (omega (arith, is-shorter i))))
-          (same_found (union_tail-finds d k (omega (arith, is-shorter i, group-shorter h)) stop n (found ++ first ∷ []) (omega (arith, is-shorter i, group-shorter h))) (append_assoc found (first ∷ []) xs))
+      (same_found (union_tail-finds d k (omega (arith, is-shorter i, group-shorter h)) stop n (found ++ first ∷ []) (omega (arith, is-shorter i, group-shorter h))) (append_assoc found (first ∷ []) xs))

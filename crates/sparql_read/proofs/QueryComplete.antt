@@ -1,7 +1,5 @@
 -- What is of the grammar of queries is read.
-use Rattle.std.proofs.Common.{◌≡◌, ℕ, zero, suc, ◌+◌, ◌<◌, ◌≤◌, ◌^◌, Bool, true, false, List, [], ◌∷◌, ◌++◌, length, Option, Some, None, refl, sym, subst, ap, ◌∙◌, append_assoc, arith}
-use Rattle.std.specs.Prelude.{◌&&◌, nat_lt, if◌then◌else◌}
-use Rattle.std.proofs.lemmas.Grind.{common_steps}
+use Rattle.std.proofs.Common.{◌≡◌, ℕ, zero, suc, ◌<◌, ◌≤◌, ◌^◌, Bool, true, false, List, [], ◌∷◌, ◌++◌, length, Option, Some, None, refl, sym, subst, ap, ◌∙◌, append_assoc, arith}
 use Rattle.std.proofs.lemmas.Bool.Decides.{nat_tests}
 use Rattle.term_core.specs.Mappings.{Name}
 use Rattle.term_core.specs.Numbers.{are_digits}
@@ -12,20 +10,18 @@ use Rattle.sparql_symbol.specs.declared.symbol.Shape.{Shape}
 use Rattle.sparql_symbol.specs.declared.symbol.Shape.TheVariants as s
 use Rattle.sparql_symbol.specs.declared.symbol.Symbol.{Symbol}
 use Rattle.sparql_read.specs.Symbols.{Is, Holds}
-use Rattle.sparql_read.specs.Parser.{Parser, head, next, value, ◌>>=◌, ◌>>◌, ◌<<◌, ◌<$>◌, pure, peek, take, spelled, more, all_more, open_paren, close_paren, as_word, name}
-use Rattle.sparql_read.specs.Expressions.{IsExpr, IsCall, call, bound, IsAggregate, count_all, aggregate}
+use Rattle.sparql_read.specs.Parser.{head, ◌>>=◌, ◌>>◌, ◌<$>◌, pure, peek, spelled, more, all_more}
+use Rattle.sparql_read.specs.Expressions.{call, bound, count_all, aggregate}
 use Rattle.sparql_read.specs.ExprReading as x
 use Rattle.sparql_read.specs.Groups.{IsConstraint, constraint, constraint_call, constraint_aggregate, IsGroup}
 use Rattle.sparql_read.specs.GroupReading as g
 use Rattle.sparql_read.specs.Queries.{item, key, ordered, IsDistinctness, distinct_rows, reduced_rows, all_rows, IsItem, item_variable, item_value, ItemTail, item_end, item_more, IsSelection, select_star, select_items, IsWhere, where_word, no_where, IsKey, key_variable, key_call, key_value, key_named, KeyTail, key_end, key_more, IsGrouping, no_grouping, grouping, HavingTail, having_end, having_more, IsHaving, no_having, having, IsOrderKey, ascending, descending, order_constraint, order_variable, OrderTail, order_end, order_more, IsOrdering, no_ordering, ordering, IsCount, count, IsLimit, limit, IsOffset, offset, IsSlice, no_slice, limit_only, limit_offset, offset_only, offset_limit, IsSelect, select}
 use Rattle.sparql_read.specs.QueryReading as r
-use Rattle.sparql_read.proofs.Steps.{is-next, holds-next, is-head, holds-head, is-shorter, holds-shorter, holds-value, holds-behind, Good, then_good, weaken, Adds, none_more, Extends, Turns, all_more-sound, open-sound, close-sound, name-sound, as-sound, Finds, same_found, more-stop, more-step, open-finds, close-finds, name-finds, as-finds, then-finds, map-finds, take-finds, at-finds, spelled-finds}
-use Rattle.sparql_read.proofs.ExprSound.{expr-sound, call-sound}
+use Rattle.sparql_read.proofs.Steps.{is-head, holds-head, is-shorter, holds-shorter, holds-value, holds-behind, none_more, Finds, same_found, more-stop, more-step, open-finds, close-finds, name-finds, as-finds, then-finds, map-finds, take-finds, at-finds, spelled-finds}
 use Rattle.sparql_read.proofs.ExprShorter.{expr-shorter, call-shorter}
 use Rattle.sparql_read.proofs.ExprEnds.{is-stops}
 use Rattle.sparql_read.proofs.ExprComplete.{expr-finds, list-finds-all, call-finds, call_bound-finds, bound-finds}
-use Rattle.sparql_read.proofs.GroupLaws.{constraint-sound, group-sound, constraint-shorter, group-shorter, constraint-finds, group-finds, group-head}
-
+use Rattle.sparql_read.proofs.GroupLaws.{constraint-shorter, group-shorter, constraint-finds, group-finds, group-head}
 
 no_more : head [] ≡ None
 unfolding head
@@ -168,7 +164,7 @@ count-finds : {ts rest : List Symbol} {n : ℕ} → IsCount ts n rest → Finds 
 unfolding r.count
 count-finds {rest = rest} (count {digits = digits} h e l) =
     at-finds r.count_by (holds-head h) (then-finds (λ ds. r.counted_if (r.fits ds) (numbers.value ds)) (spelled-word h)
-        (record { found = ap (λ f. r.counted_if f (numbers.value digits) rest) (does_fit digits e l) }))
+    (record { found = ap (λ f. r.counted_if f (numbers.value digits) rest) (does_fit digits e l) }))
 
 limit-finds : {ts rest : List Symbol} {n : ℕ} → IsLimit ts n rest → Finds r.limit ts (Some n) rest
 unfolding r.limit
@@ -233,7 +229,7 @@ module _ (d : ℕ) where
   item_tail-finds (item_more h k) fits stop zero found le = absurd (omega (arith, item-shorter h))
   item_tail-finds (item_more {ts = ts} {us = us} {first = first} {more = xs} h k) fits stop (suc n) found le =
       more-step (r.item_turn d) (r.one_item d) n found ts us first (item-turn h) (item-finds h fits)
-          (same_found (item_tail-finds k (omega (arith, item-shorter h)) stop n (found ++ first ∷ []) (omega (arith, item-shorter h))) (append_assoc found (first ∷ []) xs))
+      (same_found (item_tail-finds k (omega (arith, item-shorter h)) stop n (found ++ first ∷ []) (omega (arith, item-shorter h))) (append_assoc found (first ∷ []) xs))
 
   selection-star : {ts rest : List Symbol} → Is s.Star ts rest → Finds (r.selection d) ts (true, []) rest
   unfolding r.selection
@@ -243,8 +239,10 @@ module _ (d : ℕ) where
       → r.selection_by d o ≡ (r.one_item d >>= (λ y. (λ ys. (false, ys)) <$> r.items_from d (y ∷ []))) → Finds (r.one_item d) ts first us
       → Finds (more (r.item_turn d) (length us) (first ∷ [])) us all rest → Finds (r.selection d) ts (false, all) rest
   unfolding r.selection r.items_from all_more
-  selection-items {ts = ts} {first = first} e c h k = at-finds (r.selection_by d) e (record { found = ap (λ q. q ts) c
-      ∙ (then-finds (λ y. (λ ys. (false, ys)) <$> r.items_from d (y ∷ [])) h (map-finds {q = λ w. more (r.item_turn d) (length w) (first ∷ []) w} (λ ys. (false, ys)) (record { found = k.found }))).found })
+  selection-items {ts = ts} {first = first} e c h k = at-finds (r.selection_by d) e (record {
+    found = ap (λ q. q ts) c
+        ∙ (then-finds (λ y. (λ ys. (false, ys)) <$> r.items_from d (y ∷ [])) h (map-finds {q = λ w. more (r.item_turn d) (length w) (first ∷ []) w} (λ ys. (false, ys)) (record { found = k.found }))).found;
+  })
 
   selection-finds : {ts rest : List Symbol} {star : Bool} {xs : List SelectItem} → IsSelection ts star xs rest → length ts ≤ d → stage (head rest) ≤ 6 → Finds (r.selection d) ts (star, xs) rest
   selection-finds (select_star i) fits stop = selection-star i
@@ -290,7 +288,7 @@ module _ (d : ℕ) where
   key_tail-finds (key_more h k) fits stop zero found le = absurd (omega (arith, key-shorter h))
   key_tail-finds (key_more {ts = ts} {us = us} {first = first} {more = xs} h k) fits stop (suc n) found le =
       more-step (r.key_turn d) (r.one_key d) n found ts us first (key-turn h) (key-finds h fits)
-          (same_found (key_tail-finds k (omega (arith, key-shorter h)) stop n (found ++ first ∷ []) (omega (arith, key-shorter h))) (append_assoc found (first ∷ []) xs))
+      (same_found (key_tail-finds k (omega (arith, key-shorter h)) stop n (found ++ first ∷ []) (omega (arith, key-shorter h))) (append_assoc found (first ∷ []) xs))
 
   grouping_by-none : (ts : List Symbol) (o : Option Shape) → stage o ≤ 3 → r.grouping_by d o ts ≡ Some ([], ts)
   grouping_by-none ts (Some s.Group) h = absurd (omega arith)
@@ -301,7 +299,7 @@ module _ (d : ℕ) where
   grouping-finds (no_grouping {ts = ts}) fits stop = record { found = grouping_by-none ts (head ts) stop }
   grouping-finds (grouping {ws = ws} {first = first} i j h k) fits stop =
       at-finds (r.grouping_by d) (is-head i) (take-finds i (then-finds _ (by-finds j) (then-finds (λ y w. more (r.key_turn d) (length w) (y ∷ []) w) (key-finds h (omega (arith, is-shorter i, is-shorter j)))
-          (record { found = (key_tail-finds k (omega (arith, is-shorter i, is-shorter j, key-shorter h)) stop (length ws) (first ∷ []) (omega arith)).found }))))
+      (record { found = (key_tail-finds k (omega (arith, is-shorter i, is-shorter j, key-shorter h)) stop (length ws) (first ∷ []) (omega arith)).found }))))
 
   constraint-turn : {ts rest : List Symbol} {a : Expr} → IsConstraint true ts a rest → r.having_turn d (head ts) ≡ Some (g.constraint (x.expr d) true)
   constraint-turn (constraint i h j) = ap (r.having_turn d) (is-head i)
@@ -322,7 +320,7 @@ module _ (d : ℕ) where
   having_tail-finds (having_more h k) fits stop zero found le = absurd (omega (arith, constraint-shorter h))
   having_tail-finds (having_more {ts = ts} {us = us} {first = first} {more = xs} h k) fits stop (suc n) found le =
       more-step (r.having_turn d) (g.constraint (x.expr d) true) n found ts us first (constraint-turn h) (constraint-finds d h fits)
-          (same_found (having_tail-finds k (omega (arith, constraint-shorter h)) stop n (found ++ first ∷ []) (omega (arith, constraint-shorter h))) (append_assoc found (first ∷ []) xs))
+      (same_found (having_tail-finds k (omega (arith, constraint-shorter h)) stop n (found ++ first ∷ []) (omega (arith, constraint-shorter h))) (append_assoc found (first ∷ []) xs))
 
   having_by-none : (ts : List Symbol) (o : Option Shape) → stage o ≤ 2 → r.having_by d o ts ≡ Some ([], ts)
   having_by-none ts (Some s.Having) h = absurd (omega arith)
@@ -333,7 +331,7 @@ module _ (d : ℕ) where
   having-finds (no_having {ts = ts}) fits stop = record { found = having_by-none ts (head ts) stop }
   having-finds (having {vs = vs} {first = first} i h k) fits stop =
       at-finds (r.having_by d) (is-head i) (take-finds i (then-finds (λ y w. more (r.having_turn d) (length w) (y ∷ []) w) (constraint-finds d h (omega (arith, is-shorter i)))
-          (record { found = (having_tail-finds k (omega (arith, is-shorter i, constraint-shorter h)) stop (length vs) (first ∷ []) (omega arith)).found })))
+      (record { found = (having_tail-finds k (omega (arith, is-shorter i, constraint-shorter h)) stop (length vs) (first ∷ []) (omega arith)).found })))
 
   directed-finds : (down : Bool) {us vs ws rest : List Symbol} {a : Expr} → Is s.Open us vs → Finds (x.expr d true) vs a ws → Is s.Close ws rest → Finds (r.directed d down) us (ordered a down) rest
   unfolding r.directed
@@ -381,7 +379,7 @@ module _ (d : ℕ) where
   order_tail-finds (order_more h k) fits stop zero found le = absurd (omega (arith, order-shorter h))
   order_tail-finds (order_more {ts = ts} {us = us} {first = first} {more = xs} h k) fits stop (suc n) found le =
       more-step (r.order_turn d) (r.one_order d) n found ts us first (order-turn h) (order-finds h fits)
-          (same_found (order_tail-finds k (omega (arith, order-shorter h)) stop n (found ++ first ∷ []) (omega (arith, order-shorter h))) (append_assoc found (first ∷ []) xs))
+      (same_found (order_tail-finds k (omega (arith, order-shorter h)) stop n (found ++ first ∷ []) (omega (arith, order-shorter h))) (append_assoc found (first ∷ []) xs))
 
   ordering_by-none : (ts : List Symbol) (o : Option Shape) → stage o ≤ 1 → r.ordering_by d o ts ≡ Some ([], ts)
   ordering_by-none ts (Some s.Order) h = absurd (omega arith)
@@ -392,12 +390,12 @@ module _ (d : ℕ) where
   ordering-finds (no_ordering {ts = ts}) fits stop = record { found = ordering_by-none ts (head ts) stop }
   ordering-finds (ordering {ws = ws} {first = first} i j h k) fits stop =
       at-finds (r.ordering_by d) (is-head i) (take-finds i (then-finds _ (by-finds j) (then-finds (λ y w. more (r.order_turn d) (length w) (y ∷ []) w) (order-finds h (omega (arith, is-shorter i, is-shorter j)))
-          (record { found = (order_tail-finds k (omega (arith, is-shorter i, is-shorter j, order-shorter h)) stop (length ws) (first ∷ []) (omega arith)).found }))))
+      (record { found = (order_tail-finds k (omega (arith, is-shorter i, is-shorter j, order-shorter h)) stop (length ws) (first ∷ []) (omega arith)).found }))))
 
   modified-finds : (distinct star : Bool) (items : List SelectItem) (body : Group) {ys zs bs cs rest : List Symbol} {keys : List GroupKey} {conditions : List Expr} {order : List OrderKey} {n : Option ℕ} {m : ℕ}
       → Finds (r.grouping d) ys keys zs → Finds (r.having d) zs conditions bs → Finds (r.ordering d) bs order cs → Finds r.slice cs (n, m) rest
       → Finds (r.modified d distinct (star, items) body) ys
-          (record { distinct = distinct; star = star; items = items; body = body; keys = keys; having = conditions; order = order; limit = n; offset = m }) rest
+      (record { distinct = distinct; star = star; items = items; body = body; keys = keys; having = conditions; order = order; limit = n; offset = m }) rest
   unfolding r.modified
   modified-finds distinct star items body i j k l = then-finds _ i (then-finds _ j (then-finds _ k (then-finds _ l (record { found = refl }))))
 
@@ -406,7 +404,7 @@ module _ (d : ℕ) where
   unfolding r.query
   query-all {distinct = distinct} {star = star} {items = items} i1 i2 i3 i4 i5 i6 =
       then-finds _ i1 (then-finds (λ e. r.selection d >>= (λ selected. r.where_word >> (g.group d >>= (λ body. r.modified d e selected body)))) i2
-          (then-finds (λ selected. r.where_word >> (g.group d >>= (λ body. r.modified d distinct selected body))) i3 (then-finds _ i4 (then-finds (λ body. r.modified d distinct (star, items) body) i5 i6))))
+      (then-finds (λ selected. r.where_word >> (g.group d >>= (λ body. r.modified d distinct selected body))) i3 (then-finds _ i4 (then-finds (λ body. r.modified d distinct (star, items) body) i5 i6))))
 
   pub query-finds : {ts : List Symbol} {q : Query} → IsSelect ts q → length ts ≤ d → Finds (r.query d) ts q []
   query-finds (select {distinct = distinct} {star = star} {items = items} {body = body} i1 i2 i3 i4 i5 i6 i7 i8 i9) fits =
@@ -414,10 +412,10 @@ module _ (d : ℕ) where
       let s2 = ordering-stage i8 s1 in
       let s3 = having-stage i7 s2 in
       query-all (select-finds i1) (distinctness-finds i2 (selection-kind i3))
-          (selection-finds i3 (omega (arith, is-shorter i1, distinctness-shorter i2)) (where-stage i4 i5)) (where-finds i4 i5)
-          (group-finds d i5 (omega (arith, is-shorter i1, distinctness-shorter i2, selection-shorter i3, where-shorter i4)))
-          (modified-finds distinct star items body
-              (grouping-finds i6 (omega (arith, is-shorter i1, distinctness-shorter i2, selection-shorter i3, where-shorter i4, group-shorter i5)) s3)
-              (having-finds i7 (omega (arith, is-shorter i1, distinctness-shorter i2, selection-shorter i3, where-shorter i4, group-shorter i5, grouping-shorter i6)) s2)
-              (ordering-finds i8 (omega (arith, is-shorter i1, distinctness-shorter i2, selection-shorter i3, where-shorter i4, group-shorter i5, grouping-shorter i6, having-shorter i7)) s1)
-              (slice-finds i9 no_more))
+      (selection-finds i3 (omega (arith, is-shorter i1, distinctness-shorter i2)) (where-stage i4 i5)) (where-finds i4 i5)
+      (group-finds d i5 (omega (arith, is-shorter i1, distinctness-shorter i2, selection-shorter i3, where-shorter i4)))
+      (modified-finds distinct star items body
+      (grouping-finds i6 (omega (arith, is-shorter i1, distinctness-shorter i2, selection-shorter i3, where-shorter i4, group-shorter i5)) s3)
+      (having-finds i7 (omega (arith, is-shorter i1, distinctness-shorter i2, selection-shorter i3, where-shorter i4, group-shorter i5, grouping-shorter i6)) s2)
+      (ordering-finds i8 (omega (arith, is-shorter i1, distinctness-shorter i2, selection-shorter i3, where-shorter i4, group-shorter i5, grouping-shorter i6, having-shorter i7)) s1)
+      (slice-finds i9 no_more))

@@ -1,30 +1,24 @@
 -- The grammar of queries and its reader agree.
-use Rattle.std.proofs.Common.{◌≡◌, ℕ, zero, suc, ◌+◌, ◌<◌, ◌≤◌, ◌^◌, Bool, true, false, List, [], ◌∷◌, ◌++◌, length, Option, Some, None, refl, sym, subst, ap, ◌∙◌, append_assoc, arith}
-use Rattle.std.specs.Prelude.{◌&&◌, nat_lt, if◌then◌else◌}
-use Rattle.std.proofs.lemmas.Grind.{common_steps}
+use Rattle.std.proofs.Common.{◌≡◌, ℕ, ◌<◌, ◌^◌, Bool, true, false, List, [], ◌∷◌, Option, Some, None, refl, sym, subst, arith}
 use Rattle.std.proofs.lemmas.Bool.Decides.{nat_tests}
-use Rattle.term_core.specs.Mappings.{Name}
 use Rattle.term_core.specs.Numbers.{are_digits}
 use Rattle.term_core.specs.Numbers as numbers
-use Rattle.sparql_tree.specs.Exprs.{Expr, Var}
-use Rattle.sparql_tree.specs.Groups.{Group, SelectItem, GroupKey, OrderKey, Query}
+use Rattle.sparql_tree.specs.Exprs.{Expr}
+use Rattle.sparql_tree.specs.Groups.{SelectItem, GroupKey, OrderKey, Query}
 use Rattle.sparql_symbol.specs.declared.symbol.Shape.{Shape}
 use Rattle.sparql_symbol.specs.declared.symbol.Shape.TheVariants as s
 use Rattle.sparql_symbol.specs.declared.symbol.Symbol.{Symbol}
 use Rattle.sparql_read.specs.Symbols.{Is, Holds}
-use Rattle.sparql_read.specs.Parser.{Parser, head, next, value, ◌>>=◌, ◌>>◌, ◌<<◌, ◌<$>◌, pure, peek, take, spelled, more, all_more, open_paren, close_paren, as_word, name}
-use Rattle.sparql_read.specs.Expressions.{IsExpr, IsCall, call, bound, IsAggregate, count_all, aggregate}
+use Rattle.sparql_read.specs.Parser.{head, next, value, ◌>>=◌, ◌<$>◌, pure, open_paren, close_paren, as_word, name}
+use Rattle.sparql_read.specs.Expressions.{IsExpr, IsCall}
 use Rattle.sparql_read.specs.ExprReading as x
-use Rattle.sparql_read.specs.Groups.{IsConstraint, constraint, constraint_call, constraint_aggregate, IsGroup}
+use Rattle.sparql_read.specs.Groups.{IsConstraint, IsGroup}
 use Rattle.sparql_read.specs.GroupReading as g
-use Rattle.sparql_read.specs.Queries.{item, key, ordered, IsDistinctness, distinct_rows, reduced_rows, all_rows, IsItem, item_variable, item_value, ItemTail, item_end, item_more, IsSelection, select_star, select_items, IsWhere, where_word, no_where, IsKey, key_variable, key_call, key_value, key_named, KeyTail, key_end, key_more, IsGrouping, no_grouping, grouping, HavingTail, having_end, having_more, IsHaving, no_having, having, IsOrderKey, ascending, descending, order_constraint, order_variable, OrderTail, order_end, order_more, IsOrdering, no_ordering, ordering, IsCount, count, IsLimit, limit, IsOffset, offset, IsSlice, no_slice, limit_only, limit_offset, offset_only, offset_limit, IsSelect, select}
+use Rattle.sparql_read.specs.Queries.{ordered, IsDistinctness, distinct_rows, reduced_rows, all_rows, IsItem, item_variable, item_value, ItemTail, item_end, item_more, IsSelection, select_star, select_items, IsWhere, where_word, no_where, IsKey, key_variable, key_call, key_value, key_named, KeyTail, key_end, key_more, IsGrouping, no_grouping, grouping, HavingTail, having_end, having_more, IsHaving, no_having, having, IsOrderKey, ascending, descending, order_constraint, order_variable, OrderTail, order_end, order_more, IsOrdering, no_ordering, ordering, IsCount, count, IsLimit, limit, IsOffset, offset, IsSlice, no_slice, limit_only, limit_offset, offset_only, offset_limit, IsSelect, select}
 use Rattle.sparql_read.specs.QueryReading as r
-use Rattle.sparql_read.proofs.Steps.{is-next, holds-next, is-head, holds-head, is-shorter, holds-shorter, holds-value, holds-behind, Good, then_good, weaken, Adds, none_more, Extends, Turns, all_more-sound, open-sound, close-sound, name-sound, as-sound, Finds, same_found, more-stop, more-step, open-finds, close-finds, name-finds, as-finds, then-finds, map-finds, take-finds, at-finds, spelled-finds}
+use Rattle.sparql_read.proofs.Steps.{is-next, holds-next, Good, then_good, weaken, Adds, Extends, Turns, all_more-sound, open-sound, close-sound, name-sound, as-sound}
 use Rattle.sparql_read.proofs.ExprSound.{expr-sound, call-sound}
-use Rattle.sparql_read.proofs.ExprShorter.{expr-shorter, call-shorter}
-use Rattle.sparql_read.proofs.ExprEnds.{is-stops}
-use Rattle.sparql_read.proofs.ExprComplete.{expr-finds, list-finds-all, call-finds, call_bound-finds, bound-finds}
-use Rattle.sparql_read.proofs.GroupLaws.{constraint-sound, group-sound, constraint-shorter, group-shorter, constraint-finds, group-finds, group-head}
+use Rattle.sparql_read.proofs.GroupLaws.{constraint-sound, group-sound}
 
 -- ---- sound
 
@@ -32,34 +26,34 @@ select-sound : (ts : List Symbol) → Good (λ (u : Unit {0}) us. Is s.Select ts
 unfolding r.select_word
 select-sound ts = by (head ts) refl
   where
-  by : (o : Option Shape) → head ts ≡ o → Good (λ (u : Unit {0}) us. Is s.Select ts us) (r.select_by o ts)
-  by (Some s.Select) h = is-next s.Select ts h
-  by o h = tt
+    by : (o : Option Shape) → head ts ≡ o → Good (λ (u : Unit {0}) us. Is s.Select ts us) (r.select_by o ts)
+    by (Some s.Select) h = is-next s.Select ts h
+    by o h = tt
 
 by-sound : (ts : List Symbol) → Good (λ (u : Unit {0}) us. Is s.By ts us) (r.by_word ts)
 unfolding r.by_word
 by-sound ts = by (head ts) refl
   where
-  by : (o : Option Shape) → head ts ≡ o → Good (λ (u : Unit {0}) us. Is s.By ts us) (r.by_by o ts)
-  by (Some s.By) h = is-next s.By ts h
-  by o h = tt
+    by : (o : Option Shape) → head ts ≡ o → Good (λ (u : Unit {0}) us. Is s.By ts us) (r.by_by o ts)
+    by (Some s.By) h = is-next s.By ts h
+    by o h = tt
 
 where-sound : (ts : List Symbol) → Good (λ (u : Unit {0}) us. IsWhere ts us) (r.where_word ts)
 unfolding r.where_word
 where-sound ts = by (head ts) refl
   where
-  by : (o : Option Shape) → head ts ≡ o → Good (λ (u : Unit {0}) us. IsWhere ts us) (r.where_by o ts)
-  by (Some s.Where) h = where_word (is-next s.Where ts h)
-  by o h = no_where
+    by : (o : Option Shape) → head ts ≡ o → Good (λ (u : Unit {0}) us. IsWhere ts us) (r.where_by o ts)
+    by (Some s.Where) h = where_word (is-next s.Where ts h)
+    by o h = no_where
 
 distinctness-sound : (ts : List Symbol) → Good (IsDistinctness ts) (r.distinctness ts)
 unfolding r.distinctness
 distinctness-sound ts = by (head ts) refl
   where
-  by : (o : Option Shape) → head ts ≡ o → Good (IsDistinctness ts) (r.distinct_by o ts)
-  by (Some s.Distinct) h = distinct_rows (is-next s.Distinct ts h)
-  by (Some s.Reduced) h = reduced_rows (is-next s.Reduced ts h)
-  by o h = all_rows
+    by : (o : Option Shape) → head ts ≡ o → Good (IsDistinctness ts) (r.distinct_by o ts)
+    by (Some s.Distinct) h = distinct_rows (is-next s.Distinct ts h)
+    by (Some s.Reduced) h = reduced_rows (is-next s.Reduced ts h)
+    by o h = all_rows
 
 both_fit : (digits : List ℕ) → r.fits digits ≡ true → (are_digits digits ≡ true) × (numbers.value digits < 2 ^ 64)
 both_fit digits h = grind (arith, nat_tests)
@@ -72,9 +66,9 @@ count-sound : (ts : List Symbol) → Good (IsCount ts) (r.count ts)
 unfolding r.count
 count-sound ts = by (head ts) refl
   where
-  by : (o : Option Shape) → head ts ≡ o → Good (IsCount ts) (r.count_by o ts)
-  by (Some s.Integer) h = counted-sound ts (next ts) (value ts) (r.fits (value ts)) refl (holds-next s.Integer ts h)
-  by o h = tt
+    by : (o : Option Shape) → head ts ≡ o → Good (IsCount ts) (r.count_by o ts)
+    by (Some s.Integer) h = counted-sound ts (next ts) (value ts) (r.fits (value ts)) refl (holds-next s.Integer ts h)
+    by o h = tt
 
 -- what an offset that may be left out reads
 abbrev MaybeOffset : List Symbol → ℕ → List Symbol → Type 0
@@ -84,17 +78,17 @@ offset-sound : (ts ss : List Symbol) (l : ℕ) → IsLimit ss l ts → Good (IsS
 unfolding r.offset
 offset-sound ts ss l k = by (head ts) refl
   where
-  by : (o : Option Shape) → head ts ≡ o → Good (IsSlice ss (Some l)) (r.offset_by o ts)
-  by (Some s.Offset) h = weaken (IsCount (next ts)) (IsSlice ss (Some l)) _ (count-sound (next ts)) (λ m rest c. limit_offset k (offset (is-next s.Offset ts h) c))
-  by o h = limit_only k
+    by : (o : Option Shape) → head ts ≡ o → Good (IsSlice ss (Some l)) (r.offset_by o ts)
+    by (Some s.Offset) h = weaken (IsCount (next ts)) (IsSlice ss (Some l)) _ (count-sound (next ts)) (λ m rest c. limit_offset k (offset (is-next s.Offset ts h) c))
+    by o h = limit_only k
 
 offset_alone-sound : (ts : List Symbol) → Good (IsSlice ts None) (r.offset ts)
 unfolding r.offset
 offset_alone-sound ts = by (head ts) refl
   where
-  by : (o : Option Shape) → head ts ≡ o → Good (IsSlice ts None) (r.offset_by o ts)
-  by (Some s.Offset) h = weaken (IsCount (next ts)) (IsSlice ts None) _ (count-sound (next ts)) (λ m rest c. offset_only (offset (is-next s.Offset ts h) c))
-  by o h = no_slice
+    by : (o : Option Shape) → head ts ≡ o → Good (IsSlice ts None) (r.offset_by o ts)
+    by (Some s.Offset) h = weaken (IsCount (next ts)) (IsSlice ts None) _ (count-sound (next ts)) (λ m rest c. offset_only (offset (is-next s.Offset ts h) c))
+    by o h = no_slice
 
 -- a limit, or nothing
 abbrev MaybeLimit : List Symbol → Option ℕ → List Symbol → Type 0
@@ -105,9 +99,9 @@ limit-sound : (ts : List Symbol) → Good (MaybeLimit ts) (r.limit ts)
 unfolding r.limit
 limit-sound ts = by (head ts) refl
   where
-  by : (o : Option Shape) → head ts ≡ o → Good (MaybeLimit ts) (r.limit_by o ts)
-  by (Some s.Limit) h = then_good (IsCount (next ts)) (MaybeLimit ts) (r.count (next ts)) _ (count-sound (next ts)) (λ n rest c. limit (is-next s.Limit ts h) c)
-  by o h = refl
+    by : (o : Option Shape) → head ts ≡ o → Good (MaybeLimit ts) (r.limit_by o ts)
+    by (Some s.Limit) h = then_good (IsCount (next ts)) (MaybeLimit ts) (r.count (next ts)) _ (count-sound (next ts)) (λ n rest c. limit (is-next s.Limit ts h) c)
+    by o h = refl
 
 abbrev Sliced : List Symbol → Option ℕ × ℕ → List Symbol → Type 0
 Sliced ts part rest = IsSlice ts part.0 part.1 rest
@@ -124,20 +118,21 @@ pub slice-sound : (ts : List Symbol) → Good (Sliced ts) (r.slice ts)
 unfolding r.slice
 slice-sound ts = by (head ts) refl
   where
-  any : Good (Sliced ts) ((r.limit >>= (λ n. r.offset >>= (λ m. pure (n, m)))) ts)
-  any = then_good (MaybeLimit ts) (Sliced ts) (r.limit ts) _ (limit-sound ts) (λ n us e. limited-sound ts n us e)
-  by : (o : Option Shape) → head ts ≡ o → Good (Sliced ts) (r.slice_by o ts)
-  by (Some s.Offset) h = then_good (IsCount (next ts)) (Sliced ts) (r.count (next ts)) _ (count-sound (next ts)) (λ m us c.
-      then_good (MaybeLimit us) (Sliced ts) (r.limit us) _ (limit-sound us) (λ n rest e. behind_offset-sound ts m us (offset (is-next s.Offset ts h) c) n rest e))
-  by o h = any
+    any : Good (Sliced ts) ((r.limit >>= (λ n. r.offset >>= (λ m. pure (n, m)))) ts)
+    any = then_good (MaybeLimit ts) (Sliced ts) (r.limit ts) _ (limit-sound ts) (λ n us e. limited-sound ts n us e)
+
+    by : (o : Option Shape) → head ts ≡ o → Good (Sliced ts) (r.slice_by o ts)
+    by (Some s.Offset) h = then_good (IsCount (next ts)) (Sliced ts) (r.count (next ts)) _ (count-sound (next ts)) (λ m us c.
+        then_good (MaybeLimit us) (Sliced ts) (r.limit us) _ (limit-sound us) (λ n rest e. behind_offset-sound ts m us (offset (is-next s.Offset ts h) c) n rest e))
+    by o h = any
 
 module _ (room : ℕ) where
   item_value-sound : (ts us : List Symbol) → Is s.Open ts us → Good (IsItem ts) (r.item_value room us)
   unfolding r.item_value
   item_value-sound ts us i = then_good (IsExpr true us) (IsItem ts) (x.expr room true us) _ (expr-sound room true us) (λ a vs k.
       then_good (λ (u : Unit {0}) ws. Is s.As vs ws) (IsItem ts) (as_word vs) _ (as-sound vs) (λ u ws l.
-          then_good (λ word xs. Holds s.Var word ws xs) (IsItem ts) (name ws) _ (name-sound ws) (λ word xs h.
-              then_good (λ (w : Unit {0}) rest. Is s.Close xs rest) (IsItem ts) (close_paren xs) _ (close-sound xs) (λ w rest m. item_value i k l h m))))
+      then_good (λ word xs. Holds s.Var word ws xs) (IsItem ts) (name ws) _ (name-sound ws) (λ word xs h.
+      then_good (λ (w : Unit {0}) rest. Is s.Close xs rest) (IsItem ts) (close_paren xs) _ (close-sound xs) (λ w rest m. item_value i k l h m))))
 
   item_by-sound : (ts : List Symbol) (o : Option Shape) → head ts ≡ o → Good (IsItem ts) (r.item_by room o ts)
   item_by-sound ts (Some s.Var) h = item_variable (holds-next s.Var ts h)
@@ -166,7 +161,7 @@ module _ (room : ℕ) where
   items-sound : (ts : List Symbol) → Good (Selected ts) ((r.one_item room >>= (λ first. (λ all. (false, all)) <$> r.items_from room (first ∷ []))) ts)
   items-sound ts = then_good (IsItem ts) (Selected ts) (r.one_item room ts) _ (item-sound ts) (λ first us h.
       then_good (Adds (ItemTail us) (first ∷ [])) (Selected ts) (r.items_from room (first ∷ []) us) _ (items_from-sound (first ∷ []) us)
-          (λ all rest k. subst (λ w. IsSelection ts false w rest) (sym k.1) (select_items h k.2)))
+      (λ all rest k. subst (λ w. IsSelection ts false w rest) (sym k.1) (select_items h k.2)))
 
   selection_by-sound : (ts : List Symbol) (o : Option Shape) → head ts ≡ o → Good (Selected ts) (r.selection_by room o ts)
   selection_by-sound ts (Some s.Star) h = select_star (is-next s.Star ts h)
@@ -190,7 +185,7 @@ module _ (room : ℕ) where
   key_by-sound ts (Some s.Open) h = key_value-sound ts (next ts) (is-next s.Open ts h)
   key_by-sound ts (Some (s.Function function)) h =
       then_good (IsCall false ts) (IsKey ts) (x.call (x.expr room) false function (next ts)) _
-          (call-sound (x.expr room) (expr-sound room) false function ts (next ts) (is-next (s.Function function) ts h)) (λ a rest k. key_call k)
+      (call-sound (x.expr room) (expr-sound room) false function ts (next ts) (is-next (s.Function function) ts h)) (λ a rest k. key_call k)
   key_by-sound ts o h = tt
 
   key-sound : (ts : List Symbol) → Good (IsKey ts) (r.one_key room ts)
@@ -213,8 +208,8 @@ module _ (room : ℕ) where
   grouping_by-sound : (ts : List Symbol) (o : Option Shape) → head ts ≡ o → Good (IsGrouping ts) (r.grouping_by room o ts)
   grouping_by-sound ts (Some s.Group) h = then_good (λ (u : Unit {0}) vs. Is s.By (next ts) vs) (IsGrouping ts) (r.by_word (next ts)) _ (by-sound (next ts)) (λ u vs j.
       then_good (IsKey vs) (IsGrouping ts) (r.one_key room vs) _ (key-sound vs) (λ first ws k.
-          weaken (Adds (KeyTail ws) (first ∷ [])) (IsGrouping ts) _ (keys_from-sound (first ∷ []) ws)
-              (λ all rest m. subst (λ w. IsGrouping ts w rest) (sym m.1) (grouping (is-next s.Group ts h) j k m.2))))
+      weaken (Adds (KeyTail ws) (first ∷ [])) (IsGrouping ts) _ (keys_from-sound (first ∷ []) ws)
+      (λ all rest m. subst (λ w. IsGrouping ts w rest) (sym m.1) (grouping (is-next s.Group ts h) j k m.2))))
   grouping_by-sound ts o h = no_grouping
 
   grouping-sound : (ts : List Symbol) → Good (IsGrouping ts) (r.grouping room ts)
@@ -252,7 +247,7 @@ module _ (room : ℕ) where
   unfolding r.directed
   directed-sound Q down us k = then_good (λ (u : Unit {0}) vs. Is s.Open us vs) Q (open_paren us) _ (open-sound us) (λ u vs i.
       then_good (IsExpr true vs) Q (x.expr room true vs) _ (expr-sound room true vs) (λ a ws l.
-          then_good (λ (w : Unit {0}) rest. Is s.Close ws rest) Q (close_paren ws) _ (close-sound ws) (λ w rest m. k vs ws rest a i l m)))
+      then_good (λ (w : Unit {0}) rest. Is s.Close ws rest) Q (close_paren ws) _ (close-sound ws) (λ w rest m. k vs ws rest a i l m)))
 
   order_by-sound : (ts : List Symbol) (o : Option Shape) → head ts ≡ o → Good (IsOrderKey ts) (r.order_by room o ts)
   order_by-sound ts (Some s.Asc) h = directed-sound (IsOrderKey ts) false (next ts) (λ vs ws rest a i k m. ascending (is-next s.Asc ts h) i k m)
@@ -283,8 +278,8 @@ module _ (room : ℕ) where
   ordering_by-sound : (ts : List Symbol) (o : Option Shape) → head ts ≡ o → Good (IsOrdering ts) (r.ordering_by room o ts)
   ordering_by-sound ts (Some s.Order) h = then_good (λ (u : Unit {0}) vs. Is s.By (next ts) vs) (IsOrdering ts) (r.by_word (next ts)) _ (by-sound (next ts)) (λ u vs j.
       then_good (IsOrderKey vs) (IsOrdering ts) (r.one_order room vs) _ (order-sound vs) (λ first ws k.
-          weaken (Adds (OrderTail ws) (first ∷ [])) (IsOrdering ts) _ (orders_from-sound (first ∷ []) ws)
-              (λ all rest m. subst (λ w. IsOrdering ts w rest) (sym m.1) (ordering (is-next s.Order ts h) j k m.2))))
+      weaken (Adds (OrderTail ws) (first ∷ [])) (IsOrdering ts) _ (orders_from-sound (first ∷ []) ws)
+      (λ all rest m. subst (λ w. IsOrdering ts w rest) (sym m.1) (ordering (is-next s.Order ts h) j k m.2))))
   ordering_by-sound ts o h = no_ordering
 
   ordering-sound : (ts : List Symbol) → Good (IsOrdering ts) (r.ordering room ts)
@@ -307,4 +302,4 @@ module _ (room : ℕ) where
       then_good (IsHaving zs) (Selects ts) (r.having room zs) _ (having-sound zs) (λ conditions bs i7.
       then_good (IsOrdering bs) (Selects ts) (r.ordering room bs) _ (ordering-sound bs) (λ order cs i8.
       then_good (Sliced cs) (Selects ts) (r.slice cs) _ (slice-sound cs) (λ part rest i9 none.
-          select i1 i2 i3 i4 i5 i6 i7 i8 (subst (λ w. IsSlice cs part.0 part.1 w) none i9))))))))))
+      select i1 i2 i3 i4 i5 i6 i7 i8 (subst (λ w. IsSlice cs part.0 part.1 w) none i9))))))))))

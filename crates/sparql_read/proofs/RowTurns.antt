@@ -1,5 +1,5 @@
 -- Reading a row along the list of its variables, beside a loop that counts up.
-use Rattle.std.proofs.Common.{◌≡◌, ℕ, suc, ◌+◌, ◌<◌, ◌≤◌, List, [], ◌∷◌, length, get_or, drop, Option, Some, None, refl, sym, ap, ◌∙◌, arith}
+use Rattle.std.proofs.Common.{◌≡◌, ℕ, suc, ◌+◌, ◌<◌, ◌≤◌, List, ◌∷◌, length, get_or, drop, Option, Some, sym, ap, ◌∙◌, arith}
 use Rattle.std.proofs.Math.Seq.{drop-cons}
 use Rattle.std.proofs.Math.ListN.{drop_of_length-le}
 use Rattle.term_core.specs.Mappings.{Name, Row}
@@ -14,7 +14,7 @@ unfolding row_with
 row_turn names at name row ts below item e =
     let after : suc at ≡ at + 1 = omega arith in
     let step : drop at names ≡ name ∷ drop (at + 1) names =
-        drop-cons names at name below ∙ ap (λ x. x ∷ drop (suc at) names) (sym item) ∙ ap (λ k. name ∷ drop k names) after in
+    drop-cons names at name below ∙ ap (λ x. x ∷ drop (suc at) names) (sym item) ∙ ap (λ k. name ∷ drop k names) after in
     e ∙ ap (λ xs. row_with xs row ts) step
 
 pub row_over : {outcome : Option (Row × List Symbol)} (names : List Name) (at : ℕ) (row : Row) (ts : List Symbol) → length names ≤ at

@@ -1,11 +1,10 @@
 -- What the reader says of the grammar, for all of the symbols.
-use Rattle.std.proofs.Common.{◌≡◌, ℕ, suc, ◌+◌, Bool, List, [], ◌∷◌, length, Option, Some, None, refl, sym, subst, ap, ◌∙◌, arith}
+use Rattle.std.proofs.Common.{◌≡◌, ℕ, suc, ◌+◌, Bool, List, [], ◌∷◌, length, Some, None, refl, sym, subst, ap, ◌∙◌, arith}
 use Rattle.sparql_tree.specs.Exprs.{Expr}
 use Rattle.sparql_tree.specs.Groups.{Query}
 use Rattle.sparql_symbol.specs.declared.symbol.Symbol.{Symbol}
 use Rattle.sparql_read.specs.Parser.{head}
 use Rattle.sparql_read.specs.Expressions.{IsExpr}
-use Rattle.sparql_read.specs.ExprReading.{expr}
 use Rattle.sparql_read.specs.Queries.{IsSelect, IsQuery, without_repeats}
 use Rattle.sparql_read.specs.QueryReading.{query}
 use Rattle.sparql_read.proofs.Steps.{Good}
@@ -61,5 +60,5 @@ one_expression b ts x y h k =
     let second = (expr-finds (suc (length ts)) k (omega arith) ends).found in
     (same-parts (x, []) (y, []) (sym first ∙ second)).0
   where
-  ends : Stops 1 []
-  ends = subst (StopsAt 1) (sym no_symbol) tt
+    ends : Stops 1 []
+    ends = subst (StopsAt 1) (sym no_symbol) tt

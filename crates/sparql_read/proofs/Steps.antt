@@ -1,10 +1,10 @@
 -- Steps of a reader, and what it read of the grammar.
-use Rattle.std.proofs.Common.{◌≡◌, ℕ, zero, suc, ◌+◌, ◌<◌, ◌≤◌, Bool, List, [], ◌∷◌, ◌++◌, length, Option, Some, None, refl, sym, subst, ap, ◌∙◌, append_assoc, arith}
+use Rattle.std.proofs.Common.{◌≡◌, ℕ, zero, suc, ◌<◌, Bool, List, [], ◌∷◌, ◌++◌, length, Option, Some, None, refl, sym, subst, ap, ◌∙◌, append_assoc, arith}
 use Rattle.std.proofs.lemmas.List.{append-nil}
 use Rattle.sparql_symbol.specs.declared.symbol.Shape.{Shape}
 use Rattle.sparql_symbol.specs.declared.symbol.Shape.TheVariants as s
 use Rattle.sparql_symbol.specs.declared.symbol.Symbol.{Symbol}
-use Rattle.sparql_read.specs.Symbols.{Is, is, Holds, holds, symbol}
+use Rattle.sparql_read.specs.Symbols.{Is, is, Holds, holds}
 use Rattle.sparql_read.specs.Parser as p
 use Rattle.sparql_read.specs.Parser.{Parser, and_then, head, next, value, more, all_more, again, repeat, all_steps, onward, ◌>>=◌, ◌>>◌, ◌<<◌, ◌<$>◌, peek, take, spelled, pure, close_paren}
 
@@ -82,14 +82,13 @@ Turns Tail ts (Some q) = Good (Extends Tail ts) (q ts)
 
 module _ {A : Type 0} (Tail : List Symbol → List A → List Symbol → Type 0) (turn : Option Shape → Option (Parser A))
     (end : (ts : List Symbol) → Tail ts [] ts) (turns : (ts : List Symbol) → Turns Tail ts (turn (head ts))) where
-
   again-sound : (n : ℕ) (found : List A) (ts : List Symbol) (o : Option (Parser A)) → Turns Tail ts o
       → ((all : List A) (us : List Symbol) → Good (Adds (Tail us) all) (more turn n all us)) → Good (Adds (Tail ts) found) (again o (more turn n) found ts)
   again-sound n found ts None h go = ([], none_more found, end ts)
   again-sound n found ts (Some q) h go =
       then_good (Extends Tail ts) (Adds (Tail ts) found) (q ts) _ h (λ x us k.
-          weaken (Adds (Tail us) (found ++ x ∷ [])) (Adds (Tail ts) found) _ (go (found ++ x ∷ []) us)
-              (λ all rest m. (x ∷ m.0, one_more found x m.0 m.1, k m.0 rest m.2)))
+      weaken (Adds (Tail us) (found ++ x ∷ [])) (Adds (Tail ts) found) _ (go (found ++ x ∷ []) us)
+      (λ all rest m. (x ∷ m.0, one_more found x m.0 m.1, k m.0 rest m.2)))
 
   pub more-sound : (n : ℕ) (found : List A) (ts : List Symbol) → Good (Adds (Tail ts) found) (more turn n found ts)
   unfolding more
@@ -104,25 +103,25 @@ pub open-sound : (ts : List Symbol) → Good (λ (x : Unit {0}) us. Is s.Open ts
 unfolding p.open_paren
 open-sound ts = by (head ts) refl
   where
-  by : (o : Option Shape) → head ts ≡ o → Good (λ (x : Unit {0}) us. Is s.Open ts us) (p.open_by o ts)
-  by (Some s.Open) h = is-next s.Open ts h
-  by o h = tt
+    by : (o : Option Shape) → head ts ≡ o → Good (λ (x : Unit {0}) us. Is s.Open ts us) (p.open_by o ts)
+    by (Some s.Open) h = is-next s.Open ts h
+    by o h = tt
 
 pub close-sound : (ts : List Symbol) → Good (λ (x : Unit {0}) us. Is s.Close ts us) (p.close_paren ts)
 unfolding p.close_paren
 close-sound ts = by (head ts) refl
   where
-  by : (o : Option Shape) → head ts ≡ o → Good (λ (x : Unit {0}) us. Is s.Close ts us) (p.close_by o ts)
-  by (Some s.Close) h = is-next s.Close ts h
-  by o h = tt
+    by : (o : Option Shape) → head ts ≡ o → Good (λ (x : Unit {0}) us. Is s.Close ts us) (p.close_by o ts)
+    by (Some s.Close) h = is-next s.Close ts h
+    by o h = tt
 
 pub name-sound : (ts : List Symbol) → Good (λ word us. Holds s.Var word ts us) (p.name ts)
 unfolding p.name
 name-sound ts = by (head ts) refl
   where
-  by : (o : Option Shape) → head ts ≡ o → Good (λ word us. Holds s.Var word ts us) (p.name_by o ts)
-  by (Some s.Var) h = holds-next s.Var ts h
-  by o h = tt
+    by : (o : Option Shape) → head ts ≡ o → Good (λ word us. Holds s.Var word ts us) (p.name_by o ts)
+    by (Some s.Var) h = holds-next s.Var ts h
+    by o h = tt
 
 -- ---- complete: the reader finds this
 
@@ -194,14 +193,13 @@ append_more found added more e d = e ∙ ap (λ v. v ++ more) d ∙ append_assoc
 
 module _ {A : Type 0} (Tail : List Symbol → List A → List Symbol → Type 0) (turn : Option Shape → Option (List A → Parser (List A)))
     (end : (ts : List Symbol) → Tail ts [] ts) (steps : (ts : List Symbol) → GrowsBy Tail ts (turn (head ts))) where
-
   onward-sound : (n : ℕ) (found : List A) (ts : List Symbol) (o : Option (List A → Parser (List A))) → GrowsBy Tail ts o
       → ((all : List A) (us : List Symbol) → Good (Adds (Tail us) all) (repeat turn n all us)) → Good (Adds (Tail ts) found) (onward o (repeat turn n) found ts)
   onward-sound n found ts None h go = ([], none_more found, end ts)
   onward-sound n found ts (Some step) h go =
       then_good (Grows Tail ts found) (Adds (Tail ts) found) (step found ts) _ (h found) (λ all us k.
-          weaken (Adds (Tail us) all) (Adds (Tail ts) found) _ (go all us)
-              (λ whole rest m. (k.0 ++ m.0, append_more found k.0 m.0 m.1 k.1, k.2 m.0 rest m.2)))
+      weaken (Adds (Tail us) all) (Adds (Tail ts) found) _ (go all us)
+      (λ whole rest m. (k.0 ++ m.0, append_more found k.0 m.0 m.1 k.1, k.2 m.0 rest m.2)))
 
   pub repeat-sound : (n : ℕ) (found : List A) (ts : List Symbol) → Good (Adds (Tail ts) found) (repeat turn n found ts)
   unfolding repeat
@@ -229,25 +227,25 @@ pub open_brace-sound : (ts : List Symbol) → Good (λ (x : Unit {0}) us. Is s.O
 unfolding p.open_brace
 open_brace-sound ts = by (head ts) refl
   where
-  by : (o : Option Shape) → head ts ≡ o → Good (λ (x : Unit {0}) us. Is s.OpenBrace ts us) (p.open_brace_by o ts)
-  by (Some s.OpenBrace) h = is-next s.OpenBrace ts h
-  by o h = tt
+    by : (o : Option Shape) → head ts ≡ o → Good (λ (x : Unit {0}) us. Is s.OpenBrace ts us) (p.open_brace_by o ts)
+    by (Some s.OpenBrace) h = is-next s.OpenBrace ts h
+    by o h = tt
 
 pub close_brace-sound : (ts : List Symbol) → Good (λ (x : Unit {0}) us. Is s.CloseBrace ts us) (p.close_brace ts)
 unfolding p.close_brace
 close_brace-sound ts = by (head ts) refl
   where
-  by : (o : Option Shape) → head ts ≡ o → Good (λ (x : Unit {0}) us. Is s.CloseBrace ts us) (p.close_brace_by o ts)
-  by (Some s.CloseBrace) h = is-next s.CloseBrace ts h
-  by o h = tt
+    by : (o : Option Shape) → head ts ≡ o → Good (λ (x : Unit {0}) us. Is s.CloseBrace ts us) (p.close_brace_by o ts)
+    by (Some s.CloseBrace) h = is-next s.CloseBrace ts h
+    by o h = tt
 
 pub as-sound : (ts : List Symbol) → Good (λ (x : Unit {0}) us. Is s.As ts us) (p.as_word ts)
 unfolding p.as_word
 as-sound ts = by (head ts) refl
   where
-  by : (o : Option Shape) → head ts ≡ o → Good (λ (x : Unit {0}) us. Is s.As ts us) (p.as_by o ts)
-  by (Some s.As) h = is-next s.As ts h
-  by o h = tt
+    by : (o : Option Shape) → head ts ≡ o → Good (λ (x : Unit {0}) us. Is s.As ts us) (p.as_by o ts)
+    by (Some s.As) h = is-next s.As ts h
+    by o h = tt
 
 pub open_brace-finds : {ts us : List Symbol} → Is s.OpenBrace ts us → Finds p.open_brace ts tt us
 unfolding p.open_brace head next

@@ -1,9 +1,8 @@
 -- The grammar of terms and its reader agree.
-use Rattle.std.proofs.Common.{◌≡◌, ◌≢◌, ℕ, zero, suc, ◌+◌, ◌<◌, ◌≤◌, Bool, true, false, List, [], ◌∷◌, ◌++◌, length, Option, Some, None, refl, sym, subst, ap, ◌∙◌, arith, codes}
+use Rattle.std.proofs.Common.{◌≡◌, ◌≢◌, ℕ, ◌<◌, Bool, true, false, List, [], length, Option, Some, refl, ap, arith, codes}
 use Rattle.std.specs.Prelude.{if◌then◌else◌}
 use Rattle.std.specs.Str.{bytes_eq}
 use Rattle.std.proofs.lemmas.Slice.Eq.{bytes_eq-Decides}
-use Rattle.term_core.specs.Numbers.{xsd_integer, xsd_decimal}
 use Rattle.term_core.specs.Spelling.{lang_string}
 use Rattle.term_core.specs.Texts.{xsd_string}
 use Rattle.term_core.specs.declared.term.Term.{Term}
@@ -11,11 +10,11 @@ use Rattle.term_core.specs.declared.term.Term.TheVariants as terms
 use Rattle.sparql_symbol.specs.declared.symbol.Shape.{Shape}
 use Rattle.sparql_symbol.specs.declared.symbol.Shape.TheVariants as s
 use Rattle.sparql_symbol.specs.declared.symbol.Symbol.{Symbol}
-use Rattle.sparql_read.specs.Symbols.{Is, is, Holds, holds, symbol}
-use Rattle.sparql_read.specs.Parser.{Parser, and_then, head, next, value, ◌>>=◌, ◌>>◌, ◌<$>◌, peek, take, spelled, refuse, pure}
+use Rattle.sparql_read.specs.Symbols.{Is, is, Holds, holds}
+use Rattle.sparql_read.specs.Parser.{Parser, head, next, value, refuse, pure}
 use Rattle.sparql_read.specs.Terms.{IsNumber, integer, decimal, IsTerm, iri, plain, tagged, typed, number, plus, minus, boolean, literal, xsd_boolean}
 use Rattle.sparql_read.specs.TermReading as r
-use Rattle.sparql_read.proofs.Steps.{is-next, holds-next, is-head, is-behind, holds-head, holds-behind, holds-value, is-shorter, holds-shorter, Good, then_good, weaken, Finds}
+use Rattle.sparql_read.proofs.Steps.{is-next, holds-next, is-head, holds-head, is-shorter, holds-shorter, Good, weaken, Finds}
 
 -- ---- sound
 
@@ -36,9 +35,9 @@ datatyped-sound : (lexical datatype : List ℕ) (ts us vs rest : List Symbol) �
     → Good (IsTerm ts) (r.datatyped lexical datatype rest)
 datatyped-sound lexical datatype ts us vs rest q t d = go (bytes_eq datatype lang_string) refl
   where
-  go : (same : Bool) → bytes_eq datatype lang_string ≡ same → Good (IsTerm ts) (chosen same lexical datatype rest)
-  go true e = tt
-  go false e = typed q t d (λ equal. let t : bytes_eq datatype lang_string ≡ true = (bytes_eq-Decides datatype lang_string).1 equal in absurd cc)
+    go : (same : Bool) → bytes_eq datatype lang_string ≡ same → Good (IsTerm ts) (chosen same lexical datatype rest)
+    go true e = tt
+    go false e = typed q t d (λ equal. let t : bytes_eq datatype lang_string ≡ true = (bytes_eq-Decides datatype lang_string).1 equal in absurd cc)
 
 typed_by-sound : (lexical : List ℕ) (ts us vs : List Symbol) (o : Option Shape) → head vs ≡ o → Holds s.Quoted lexical ts us → Is s.Typed us vs
     → Good (IsTerm ts) (r.typed_by lexical o vs)
@@ -100,17 +99,17 @@ quoted-plain : (lexical : List ℕ) (us : List Symbol) → ends_string (head us)
 unfolding r.quoted
 quoted-plain lexical us h = record { found = by (head us) h }
   where
-  by : (o : Option Shape) → ends_string o ≡ true → r.quoted_by lexical o us ≡ Some (literal lexical xsd_string, us)
-  by (Some s.Tag) h = absurd cc
-  by (Some s.Typed) h = absurd cc
-  by o h = refl
+    by : (o : Option Shape) → ends_string o ≡ true → r.quoted_by lexical o us ≡ Some (literal lexical xsd_string, us)
+    by (Some s.Tag) h = absurd cc
+    by (Some s.Typed) h = absurd cc
+    by o h = refl
 
 datatyped-finds : (lexical datatype : List ℕ) (rest : List Symbol) → datatype ≢ lang_string → r.datatyped lexical datatype rest ≡ Some (literal lexical datatype, rest)
 datatyped-finds lexical datatype rest other = go (bytes_eq datatype lang_string) refl
   where
-  go : (same : Bool) → bytes_eq datatype lang_string ≡ same → chosen same lexical datatype rest ≡ Some (literal lexical datatype, rest)
-  go true e = absurd (other ((bytes_eq-Decides datatype lang_string).0 e))
-  go false e = refl
+    go : (same : Bool) → bytes_eq datatype lang_string ≡ same → chosen same lexical datatype rest ≡ Some (literal lexical datatype, rest)
+    go true e = absurd (other ((bytes_eq-Decides datatype lang_string).0 e))
+    go false e = refl
 
 quoted-tagged : {lexical tag : List ℕ} {us rest : List Symbol} → Holds s.Tag tag us rest → Finds (r.quoted lexical) us (terms.Literal lexical lang_string tag) rest
 unfolding r.quoted head next value

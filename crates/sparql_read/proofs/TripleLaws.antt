@@ -1,16 +1,15 @@
 -- The grammar of triple patterns and its reader agree.
-use Rattle.std.proofs.Common.{◌≡◌, ℕ, zero, suc, ◌+◌, ◌<◌, ◌≤◌, Bool, true, false, List, [], ◌∷◌, ◌++◌, length, Option, Some, None, refl, sym, subst, ap, ◌∙◌, append_assoc, arith, ◌⊎◌, inl, inr}
+use Rattle.std.proofs.Common.{◌≡◌, ℕ, zero, suc, ◌<◌, ◌≤◌, Bool, true, false, List, [], ◌∷◌, ◌++◌, length, Option, Some, None, refl, sym, subst, ap, ◌∙◌, append_assoc, arith, ◌⊎◌, inl, inr}
 use Rattle.term_core.specs.declared.pattern.Pattern.{Pattern}
 use Rattle.term_core.specs.declared.pattern.Place.{Place}
 use Rattle.term_core.specs.declared.pattern.Place.TheVariants as places
-use Rattle.term_core.specs.declared.term.Term.{Term}
 use Rattle.term_core.specs.declared.term.Term.TheVariants as terms
 use Rattle.sparql_tree.specs.Groups.{Element, Triples}
 use Rattle.sparql_symbol.specs.declared.symbol.Shape.{Shape}
 use Rattle.sparql_symbol.specs.declared.symbol.Shape.TheVariants as s
 use Rattle.sparql_symbol.specs.declared.symbol.Symbol.{Symbol}
-use Rattle.sparql_read.specs.Symbols.{Is, Holds}
-use Rattle.sparql_read.specs.Parser.{Parser, head, next, value, ◌>>=◌, ◌>>◌, ◌<$>◌, pure, peek, take, spelled, more, all_more, repeat, all_steps}
+use Rattle.sparql_read.specs.Symbols.{Is}
+use Rattle.sparql_read.specs.Parser.{Parser, head, next, ◌>>=◌, ◌>>◌, ◌<$>◌, peek, take, more, all_more, repeat, all_steps}
 use Rattle.sparql_read.specs.Terms.{IsTerm}
 use Rattle.sparql_read.specs.TermReading.{term}
 use Rattle.sparql_read.specs.Triples.{pattern, rdf_type, IsNode, node_variable, node_blank, node_term, IsVerb, verb_variable, verb_iri, verb_a, ObjectTail, object_end, object_more, IsObjects, objects, PropertyTail, property_end, property_none, property_more, IsSame, same, IsBlock, block_one, block_point, block_more, IsTriples, no_triples, triples}
@@ -54,14 +53,14 @@ objects-sound : (subject predicate : Place) (found : List Pattern) (ts : List Sy
 unfolding r.objects
 objects-sound subject predicate found ts = then_good (IsNode ts) (Adds (IsObjects subject predicate ts) found) (r.node ts) _ (node-sound ts) (λ object us k.
     weaken (Adds (ObjectTail subject predicate us) (found ++ pattern subject predicate object ∷ [])) (Adds (IsObjects subject predicate ts) found) _
-        (object_rest-sound subject predicate (found ++ pattern subject predicate object ∷ []) us)
-        (λ all rest m. (pattern subject predicate object ∷ m.0, one_more found (pattern subject predicate object) m.0 m.1, objects k m.2)))
+    (object_rest-sound subject predicate (found ++ pattern subject predicate object ∷ []) us)
+    (λ all rest m. (pattern subject predicate object ∷ m.0, one_more found (pattern subject predicate object) m.0 m.1, objects k m.2)))
 
 property_if-sound : (subject : Place) (found : List Pattern) (ts us : List Symbol) (begins : Bool) → Is s.Semicolon ts us
     → Good (Grows (PropertyTail subject) ts found) (r.property_if subject found begins us)
 property_if-sound subject found ts us true i = then_good (IsVerb us) (Grows (PropertyTail subject) ts found) (r.verb us) _ (verb-sound us) (λ predicate vs k.
     weaken (Adds (IsObjects subject predicate vs) found) (Grows (PropertyTail subject) ts found) _ (objects-sound subject predicate found vs)
-        (λ all ws m. (m.0, m.1, λ xs rest t. property_more i k m.2 t)))
+    (λ all ws m. (m.0, m.1, λ xs rest t. property_more i k m.2 t)))
 property_if-sound subject found ts us false i = ([], none_more found, λ xs rest t. property_none i t)
 
 property-sound : (subject : Place) (found : List Pattern) (ts us : List Symbol) → Is s.Semicolon ts us → Good (Grows (PropertyTail subject) ts found) (r.property subject found us)
@@ -80,9 +79,9 @@ same-sound : (found : List Pattern) (ts : List Symbol) → Good (Adds (IsSame ts
 unfolding r.same
 same-sound found ts = then_good (IsNode ts) (Adds (IsSame ts) found) (r.node ts) _ (node-sound ts) (λ subject us i.
     then_good (IsVerb us) (Adds (IsSame ts) found) (r.verb us) _ (verb-sound us) (λ predicate vs j.
-        then_good (Adds (IsObjects subject predicate vs) found) (Adds (IsSame ts) found) (r.objects subject predicate found vs) _ (objects-sound subject predicate found vs) (λ all ws k.
-            weaken (Adds (PropertyTail subject ws) all) (Adds (IsSame ts) found) _ (property_rest-sound subject all ws)
-                (λ whole rest m. (k.0 ++ m.0, append_more found k.0 m.0 m.1 k.1, same i j k.2 m.2)))))
+    then_good (Adds (IsObjects subject predicate vs) found) (Adds (IsSame ts) found) (r.objects subject predicate found vs) _ (objects-sound subject predicate found vs) (λ all ws k.
+    weaken (Adds (PropertyTail subject ws) all) (Adds (IsSame ts) found) _ (property_rest-sound subject all ws)
+    (λ whole rest m. (k.0 ++ m.0, append_more found k.0 m.0 m.1 k.1, same i j k.2 m.2)))))
 
 further-sound : (n : ℕ) (found : List Pattern) (ts : List Symbol) (all : List Pattern) (us vs : List Symbol) (begins : Bool) → Adds (IsSame ts) found all us → Is s.Point us vs
     → ((xs : List Pattern) (ws : List Symbol) → Good (Adds (IsBlock ws) xs) (r.block_within n xs ws)) → Good (Adds (IsBlock ts) found) (r.further (r.block_within n) all begins vs)
@@ -285,8 +284,8 @@ object_tail-finds subject predicate (object_end {ts = ts}) ends n found le =
 object_tail-finds subject predicate (object_more i h k) ends zero found le = absurd (omega (arith, is-shorter i))
 object_tail-finds subject predicate (object_more {ts = ts} {vs = vs} {object = object} {more = xs} i h k) ends (suc n) found le =
     more-step (r.object_turn subject predicate) (take >> (pattern subject predicate <$> r.node)) n found ts vs (pattern subject predicate object) (ap (r.object_turn subject predicate) (is-head i))
-        (take-finds i (map-finds (pattern subject predicate) (node-finds h (object_tail-ends k ends))))
-        (same_found (object_tail-finds subject predicate k ends n (found ++ pattern subject predicate object ∷ []) (omega (arith, is-shorter i, node-shorter h))) (append_assoc found (pattern subject predicate object ∷ []) xs))
+    (take-finds i (map-finds (pattern subject predicate) (node-finds h (object_tail-ends k ends))))
+    (same_found (object_tail-finds subject predicate k ends n (found ++ pattern subject predicate object ∷ []) (omega (arith, is-shorter i, node-shorter h))) (append_assoc found (pattern subject predicate object ∷ []) xs))
 
 object_rest-all : (subject predicate : Place) {ts rest : List Symbol} {all : List Pattern} (found : List Pattern) → Finds (more (r.object_turn subject predicate) (length ts) found) ts all rest
     → Finds (r.object_rest subject predicate found) ts all rest
@@ -302,7 +301,7 @@ objects-finds : (subject predicate : Place) {ts rest : List Symbol} {xs : List P
     → Finds (r.objects subject predicate found) ts (found ++ xs) rest
 objects-finds subject predicate (objects {us = us} {object = object} {more = xs} h k) ends found =
     objects-step subject predicate object found (node-finds h (object_tail-ends k ends))
-        (object_rest-all subject predicate _ (same_found (object_tail-finds subject predicate k ends (length us) (found ++ pattern subject predicate object ∷ []) (omega arith)) (append_assoc found (pattern subject predicate object ∷ []) xs)))
+    (object_rest-all subject predicate _ (same_found (object_tail-finds subject predicate k ends (length us) (found ++ pattern subject predicate object ∷ []) (omega arith)) (append_assoc found (pattern subject predicate object ∷ []) xs)))
 
 property-none : (subject : Place) (found : List Pattern) (us : List Symbol) → begins_verb (head us) ≡ false → Finds (r.property subject found) us found us
 unfolding r.property
@@ -323,12 +322,12 @@ property_tail-finds subject (property_end {ts = ts}) ends n found le = same_foun
 property_tail-finds subject (property_none i k) ends zero found le = absurd (omega (arith, is-shorter i))
 property_tail-finds subject (property_none {ts = ts} {us = us} i k) ends (suc n) found le =
     repeat-step (r.property_turn subject) (λ xs. take >> r.property subject xs) n found found ts us (ap (r.property_turn subject) (is-head i))
-        (take-finds i (property-none subject found us (property_tail-no_verb k ends))) (property_tail-finds subject k ends n found (omega (arith, is-shorter i)))
+    (take-finds i (property-none subject found us (property_tail-no_verb k ends))) (property_tail-finds subject k ends n found (omega (arith, is-shorter i)))
 property_tail-finds subject (property_more i h j k) ends zero found le = absurd (omega (arith, is-shorter i))
 property_tail-finds subject (property_more {ts = ts} {ws = ws} {verb = predicate} {found = xs} {more = ys} i h j k) ends (suc n) found le =
     repeat-step (r.property_turn subject) (λ zs. take >> r.property subject zs) n found (found ++ xs) ts ws (ap (r.property_turn subject) (is-head i))
-        (take-finds i (property-some subject predicate found (verb-begins h) (verb-finds h) (objects-finds subject predicate j (property_tail-ends k ends) found)))
-        (same_found (property_tail-finds subject k ends n (found ++ xs) (omega (arith, is-shorter i, verb-shorter h, objects-shorter j))) (append_assoc found xs ys))
+    (take-finds i (property-some subject predicate found (verb-begins h) (verb-finds h) (objects-finds subject predicate j (property_tail-ends k ends) found)))
+    (same_found (property_tail-finds subject k ends n (found ++ xs) (omega (arith, is-shorter i, verb-shorter h, objects-shorter j))) (append_assoc found xs ys))
 
 same-step : (subject predicate : Place) (found : List Pattern) {ts us vs ws rest : List Symbol} {all whole : List Pattern} → Finds r.node ts subject us → Finds r.verb us predicate vs
     → Finds (r.objects subject predicate found) vs all ws → Finds (repeat (r.property_turn subject) (length ws) all) ws whole rest → Finds (r.same found) ts whole rest
@@ -338,7 +337,7 @@ same-step subject predicate found h i j k = then-finds _ h (then-finds _ i (then
 same-finds : {ts rest : List Symbol} {xs : List Pattern} → IsSame ts xs rest → Ends 2 rest → (found : List Pattern) → Finds (r.same found) ts (found ++ xs) rest
 same-finds (same {ws = ws} {subject = subject} {verb = predicate} {found = xs} {more = ys} h i j k) ends found =
     same-step subject predicate found (node-finds h (verb-ends i)) (verb-finds i) (objects-finds subject predicate j (property_tail-ends k ends) found)
-        (same_found (property_tail-finds subject k ends (length ws) (found ++ xs) (omega arith)) (append_assoc found xs ys))
+    (same_found (property_tail-finds subject k ends (length ws) (found ++ xs) (omega arith)) (append_assoc found xs ys))
 
 pointed-stop : (go : List Pattern → Parser (List Pattern)) (all : List Pattern) (us : List Symbol) (o : Option Shape) → EndsAt 1 o → r.pointed go all o us ≡ Some (all, us)
 pointed-stop go all us (Some s.Point) h = absurd (omega arith)
@@ -369,7 +368,7 @@ block-finds (block_point {rest = rest} k i) ends (suc n) found le =
 block-finds (block_more k i m) ends zero found le = absurd (omega (arith, same-shorter k))
 block-finds (block_more {found = xs} {more = ys} k i m) ends (suc n) found le =
     block-more n found (same-finds k (is-ends 2 i (omega arith)) found) i (block-begins m)
-        (same_found (block-finds m ends n (found ++ xs) (omega (arith, same-shorter k, is-shorter i))) (append_assoc found xs ys))
+    (same_found (block-finds m ends n (found ++ xs) (omega (arith, same-shorter k, is-shorter i))) (append_assoc found xs ys))
 
 triples-none : (ts : List Symbol) → begins_node (head ts) ≡ false → Finds r.triples ts [] ts
 unfolding r.triples

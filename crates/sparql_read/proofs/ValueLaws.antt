@@ -1,5 +1,5 @@
 -- The grammar of inline data and its reader agree.
-use Rattle.std.proofs.Common.{◌≡◌, ℕ, zero, suc, ◌+◌, ◌<◌, ◌≤◌, Bool, true, false, List, [], ◌∷◌, ◌++◌, length, Option, Some, None, refl, sym, subst, ap, ◌∙◌, append_assoc, arith}
+use Rattle.std.proofs.Common.{◌≡◌, ℕ, zero, suc, ◌<◌, ◌≤◌, Bool, true, List, [], ◌∷◌, ◌++◌, length, Option, Some, None, refl, sym, subst, ap, ◌∙◌, append_assoc, arith}
 use Rattle.std.specs.FinMap as finmap
 use Rattle.term_core.specs.Mappings.{Name, Row}
 use Rattle.term_core.specs.declared.term.Term.{Term}
@@ -8,12 +8,12 @@ use Rattle.sparql_symbol.specs.declared.symbol.Shape.{Shape}
 use Rattle.sparql_symbol.specs.declared.symbol.Shape.TheVariants as s
 use Rattle.sparql_symbol.specs.declared.symbol.Symbol.{Symbol}
 use Rattle.sparql_read.specs.Symbols.{Is, Holds}
-use Rattle.sparql_read.specs.Parser.{Parser, head, next, value, ◌>>=◌, ◌>>◌, ◌<<◌, ◌<$>◌, pure, peek, take, spelled, more, all_more, open_brace, close_brace, close_paren}
+use Rattle.sparql_read.specs.Parser.{head, next, value, ◌>>=◌, ◌>>◌, ◌<<◌, ◌<$>◌, pure, take, spelled, more, all_more, open_brace, close_brace, close_paren}
 use Rattle.sparql_read.specs.Terms.{IsTerm}
 use Rattle.sparql_read.specs.TermReading.{term}
 use Rattle.sparql_read.specs.Values.{with_cell, IsCell, cell_term, cell_undef, IsRow, row_end, row_more, OneRows, one_end, one_more, IsNames, names_end, names_more, FullRows, full_end, full_more, IsValues, values_one, values_full}
 use Rattle.sparql_read.specs.ValueReading as r
-use Rattle.sparql_read.proofs.Steps.{is-next, holds-next, is-head, is-behind, holds-head, holds-behind, holds-value, is-shorter, holds-shorter, Good, then_good, weaken, Adds, none_more, Extends, Turns, all_more-sound, close-sound, open_brace-sound, close_brace-sound, Finds, same_found, more-stop, more-step, then-finds, map-finds, take-finds, at-finds, spelled-finds, closed-finds, close-finds, open_brace-finds, close_brace-finds}
+use Rattle.sparql_read.proofs.Steps.{is-next, holds-next, is-head, holds-head, holds-behind, holds-value, is-shorter, holds-shorter, Good, then_good, weaken, Adds, none_more, Extends, Turns, all_more-sound, close-sound, open_brace-sound, close_brace-sound, Finds, same_found, more-stop, more-step, then-finds, map-finds, take-finds, at-finds, closed-finds, close-finds, open_brace-finds, close_brace-finds}
 use Rattle.sparql_read.proofs.ExprSound.{closed-sound}
 use Rattle.sparql_read.proofs.TermLaws.{term-sound, term-finds, term-shorter, term-head, begins_term, ends_string}
 
@@ -66,7 +66,7 @@ names-sound ts = all_more-sound IsNames r.names_turn (λ us. names_end) (λ us. 
 full_turn-sound : (names : List Name) (ts : List Symbol) (o : Option Shape) → head ts ≡ o → Turns (FullRows names) ts (r.full_turn names o)
 full_turn-sound names ts (Some s.Open) h =
     closed-sound (IsRow names finmap.empty (next ts)) (Extends (FullRows names) ts) (r.row names) (next ts) (row-sound names (next ts))
-        (λ row us vs k m xs rest t. full_more (is-next s.Open ts h) k m t)
+    (λ row us vs k m xs rest t. full_more (is-next s.Open ts h) k m t)
 full_turn-sound names ts o h = tt
 
 full_rows-sound : (names : List Name) (ts : List Symbol) → Good (Adds (FullRows names ts) []) (r.full_rows names ts)
@@ -77,17 +77,17 @@ one-sound : (name : Name) (ts us : List Symbol) → Holds s.Var name ts us → G
 unfolding r.one
 one-sound name ts us h = then_good (λ (x : Unit {0}) vs. Is s.OpenBrace us vs) (HasValues ts) (open_brace us) _ (open_brace-sound us) (λ x vs i.
     then_good (Adds (OneRows name vs) []) (HasValues ts) (r.one_rows (name ∷ []) vs) _ (one_rows-sound name vs) (λ rows ws k.
-        then_good (λ (y : Unit {0}) rest. Is s.CloseBrace ws rest) (HasValues ts) (close_brace ws) _ (close_brace-sound ws) (λ y rest j.
-            record { names = name ∷ []; rows = k.0; is_values = values_one h i k.2 j; same = ap (Values (name ∷ [])) (sym k.1) })))
+    then_good (λ (y : Unit {0}) rest. Is s.CloseBrace ws rest) (HasValues ts) (close_brace ws) _ (close_brace-sound ws) (λ y rest j.
+    record { names = name ∷ []; rows = k.0; is_values = values_one h i k.2 j; same = ap (Values (name ∷ [])) (sym k.1) })))
 
 full-sound : (ts us : List Symbol) → Is s.Open ts us → Good (HasValues ts) (r.full us)
 unfolding r.full
 full-sound ts us h = then_good (Adds (IsNames us) []) (HasValues ts) (r.names us) _ (names-sound us) (λ names vs k.
     then_good (λ (x : Unit {0}) ws. Is s.Close vs ws) (HasValues ts) (close_paren vs) _ (close-sound vs) (λ x ws i.
-        then_good (λ (x : Unit {0}) xs. Is s.OpenBrace ws xs) (HasValues ts) (open_brace ws) _ (open_brace-sound ws) (λ y xs j.
-            then_good (Adds (FullRows names xs) []) (HasValues ts) (r.full_rows names xs) _ (full_rows-sound names xs) (λ rows ys m.
-                then_good (λ (x : Unit {0}) rest. Is s.CloseBrace ys rest) (HasValues ts) (close_brace ys) _ (close_brace-sound ys) (λ z rest l.
-                    record { names = names; rows = m.0; is_values = values_full h (subst (λ v. IsNames us v vs) (sym k.1) k.2) i j m.2 l; same = ap (Values names) (sym m.1) })))))
+    then_good (λ (x : Unit {0}) xs. Is s.OpenBrace ws xs) (HasValues ts) (open_brace ws) _ (open_brace-sound ws) (λ y xs j.
+    then_good (Adds (FullRows names xs) []) (HasValues ts) (r.full_rows names xs) _ (full_rows-sound names xs) (λ rows ys m.
+    then_good (λ (x : Unit {0}) rest. Is s.CloseBrace ys rest) (HasValues ts) (close_brace ys) _ (close_brace-sound ys) (λ z rest l.
+    record { names = names; rows = m.0; is_values = values_full h (subst (λ v. IsNames us v vs) (sym k.1) k.2) i j m.2 l; same = ap (Values names) (sym m.1) })))))
 
 values_by-sound : (ts : List Symbol) (o : Option Shape) → head ts ≡ o → Good (HasValues ts) (r.values_by o ts)
 values_by-sound ts (Some s.Var) h = one-sound (value ts) ts (next ts) (holds-next s.Var ts h)
@@ -194,7 +194,7 @@ one_rows-finds name (one_end {ts = ts}) i n found le = same_found (more-stop (r.
 one_rows-finds name (one_more h k) i zero found le = absurd (omega (arith, one-row-shorter h))
 one_rows-finds name (one_more {ts = ts} {us = us} {row = row} {more = xs} h k) i (suc n) found le =
     more-step (r.one_turn (name ∷ [])) (r.row (name ∷ [])) n found ts us row (one_turn-row name (head ts) (one-row-begins h)) (row-finds (name ∷ []) h (one_rows-ends k (ap ends_string (is-head i))))
-        (same_found (one_rows-finds name k i n (found ++ row ∷ []) (omega (arith, one-row-shorter h))) (append_assoc found (row ∷ []) xs))
+    (same_found (one_rows-finds name k i n (found ++ row ∷ []) (omega (arith, one-row-shorter h))) (append_assoc found (row ∷ []) xs))
 
 spelled-name : {name : Name} {ts us : List Symbol} → Holds s.Var name ts us → Finds spelled ts name us
 spelled-name h = record { found = λ i. Some (holds-value h i, holds-behind h i) }
@@ -205,7 +205,7 @@ names-finds (names_end {ts = ts}) i n found le = same_found (more-stop r.names_t
 names-finds (names_more h k) i zero found le = absurd (omega (arith, holds-shorter h))
 names-finds (names_more {ts = ts} {us = us} {name = name} {more = xs} h k) i (suc n) found le =
     more-step r.names_turn spelled n found ts us name (ap r.names_turn (holds-head h)) (spelled-name h)
-        (same_found (names-finds k i n (found ++ name ∷ []) (omega (arith, holds-shorter h))) (append_assoc found (name ∷ []) xs))
+    (same_found (names-finds k i n (found ++ name ∷ []) (omega (arith, holds-shorter h))) (append_assoc found (name ∷ []) xs))
 
 full_rows-finds : (names : List Name) {rows : List Row} {ts us rest : List Symbol} → FullRows names ts rows us → Is s.CloseBrace us rest → (n : ℕ) (found : List Row) → length ts ≤ n
     → Finds (more (r.full_turn names) n found) ts (found ++ rows) us
@@ -213,8 +213,8 @@ full_rows-finds names (full_end {ts = ts}) i n found le = same_found (more-stop 
 full_rows-finds names (full_more j h m k) i zero found le = absurd (omega (arith, is-shorter j))
 full_rows-finds names (full_more {ts = ts} {ws = ws} {row = row} {more = xs} j h m k) i (suc n) found le =
     more-step (r.full_turn names) (take >> (r.row names << close_paren)) n found ts ws row (ap (r.full_turn names) (is-head j))
-        (take-finds j (closed-finds (row-finds names h (ap ends_string (is-head m))) m))
-        (same_found (full_rows-finds names k i n (found ++ row ∷ []) (omega (arith, is-shorter j, row-shorter h, is-shorter m))) (append_assoc found (row ∷ []) xs))
+    (take-finds j (closed-finds (row-finds names h (ap ends_string (is-head m))) m))
+    (same_found (full_rows-finds names k i n (found ++ row ∷ []) (omega (arith, is-shorter j, row-shorter h, is-shorter m))) (append_assoc found (row ∷ []) xs))
 
 one-finds : (name : Name) {us vs ws rest : List Symbol} {rows : List Row} → Is s.OpenBrace us vs → Finds (more (r.one_turn (name ∷ [])) (length vs) []) vs rows ws → Is s.CloseBrace ws rest
     → Finds (r.one name) us (Values (name ∷ []) rows) rest

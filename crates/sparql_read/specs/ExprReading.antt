@@ -1,6 +1,6 @@
 -- Reading an expression, level by level. The number is the room for nested expressions.
-use Rattle.std.specs.Prelude.{◌≡◌, ◌++◌, ℕ, zero, suc, Bool, true, false, List, [], ◌∷◌, length, Option, Some, None, codes, if◌then◌else◌}
-use Rattle.sparql_tree.specs.Exprs.{Expr, Var, Const, Or, And, Not, Plus, Minus, Compare, OneOf, Sum, Product, Call, Aggregate, AggregateAll, exprs, operands}
+use Rattle.std.specs.Prelude.{ℕ, zero, suc, Bool, true, false, List, [], ◌∷◌, length, Option, Some, None, codes, if◌then◌else◌}
+use Rattle.sparql_tree.specs.Exprs.{Expr, Var, Const, Not, Plus, Minus, Compare, OneOf, Call, Aggregate, AggregateAll, exprs}
 use Rattle.sparql_tree.specs.declared.words.AggregateKind.{AggregateKind}
 use Rattle.sparql_tree.specs.declared.words.AggregateKind.TheVariants as kinds
 use Rattle.sparql_tree.specs.declared.words.CompareOp.{CompareOp}
@@ -8,8 +8,7 @@ use Rattle.sparql_tree.specs.declared.words.Function.{Function}
 use Rattle.sparql_tree.specs.declared.words.Function.TheVariants as functions
 use Rattle.sparql_symbol.specs.declared.symbol.Shape.{Shape}
 use Rattle.sparql_symbol.specs.declared.symbol.Shape.TheVariants as s
-use Rattle.sparql_symbol.specs.declared.symbol.Symbol.{Symbol}
-use Rattle.sparql_read.specs.Parser.{Parser, ◌>>=◌, ◌>>◌, ◌<<◌, ◌<$>◌, pure, refuse, peek, take, spelled, head, all_more, open_paren, close_paren, name}
+use Rattle.sparql_read.specs.Parser.{Parser, ◌>>=◌, ◌>>◌, ◌<<◌, ◌<$>◌, pure, refuse, peek, take, spelled, all_more, open_paren, close_paren, name}
 use Rattle.sparql_read.specs.TermReading.{term, number}
 use Rattle.sparql_read.specs.Expressions.{or_node, and_node, sum_node, product_node, op_of, begins_number, takes}
 

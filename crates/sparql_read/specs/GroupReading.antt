@@ -1,5 +1,5 @@
 -- Reading a group. The number is the room for nested groups and expressions.
-use Rattle.std.specs.Prelude.{ℕ, zero, suc, Bool, true, false, List, [], ◌∷◌, ◌++◌, Option, Some, None}
+use Rattle.std.specs.Prelude.{ℕ, zero, suc, Bool, false, List, [], ◌∷◌, ◌++◌, Option, Some, None}
 use Rattle.sparql_tree.specs.Exprs.{Expr}
 use Rattle.sparql_tree.specs.Groups.{Group, GroupOf, Element, Union, Optional, Minus, Filter, Bind, elements, groups}
 use Rattle.sparql_symbol.specs.declared.symbol.Shape.{Shape}

@@ -1,13 +1,12 @@
 -- Reading a query.
-use Rattle.std.specs.Prelude.{◌≡◌, ◌^◌, ◌&&◌, nat_lt, ℕ, Bool, true, false, List, [], ◌∷◌, length, Option, Some, None, if◌then◌else◌}
+use Rattle.std.specs.Prelude.{◌^◌, ◌&&◌, nat_lt, ℕ, Bool, true, false, List, [], ◌∷◌, Option, Some, None, if◌then◌else◌}
 use Rattle.term_core.specs.Numbers.{are_digits}
 use Rattle.term_core.specs.Numbers as numbers
 use Rattle.sparql_tree.specs.Exprs.{Expr, Var}
 use Rattle.sparql_tree.specs.Groups.{Group, SelectItem, GroupKey, OrderKey, Query}
 use Rattle.sparql_symbol.specs.declared.symbol.Shape.{Shape}
 use Rattle.sparql_symbol.specs.declared.symbol.Shape.TheVariants as s
-use Rattle.sparql_symbol.specs.declared.symbol.Symbol.{Symbol}
-use Rattle.sparql_read.specs.Parser.{Parser, ◌>>=◌, ◌>>◌, ◌<<◌, ◌<$>◌, pure, refuse, peek, take, spelled, all_more, open_paren, close_paren, as_word, name, head}
+use Rattle.sparql_read.specs.Parser.{Parser, ◌>>=◌, ◌>>◌, ◌<$>◌, pure, refuse, peek, take, spelled, all_more, open_paren, close_paren, as_word, name}
 use Rattle.sparql_read.specs.ExprReading.{expr, call}
 use Rattle.sparql_read.specs.GroupReading.{constraint, group}
 use Rattle.sparql_read.specs.Queries.{item, key, ordered}

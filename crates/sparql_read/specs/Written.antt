@@ -31,7 +31,8 @@ written_of written = record {
   having = trees_of written.having;
   order = map order_of written.order;
   limit = written.slice.limit;
-  offset = written.slice.offset }
+  offset = written.slice.offset;
+}
 
 -- the set has the texts that are among the names
 abbrev pub HasNames : BTreeSet (String Global) → List Name → Type 0

@@ -33,7 +33,12 @@ fn constant(term: Term) -> Expr
 
 /// An expression. `NotAQuery` comes exactly where none of the grammar stands there within the room.
 #[cycle(expr)]
-pub fn expr(alloc: Global, cursor: &mut Cursor<'_>, room: usize, aggregates: bool) -> Result<Expr, Fault>
+pub fn expr(
+    alloc: Global,
+    cursor: &mut Cursor<'_>,
+    room: usize,
+    aggregates: bool,
+) -> Result<Expr, Fault>
     ensures { Reads tree_of (spec.expr room aggregates cursor.old) result cursor.new }
 {
     if room == 0 {
@@ -67,7 +72,13 @@ fn or_node(mut parts: Vec<Expr>) -> Expr
 
 /// The first, and those that follow.
 #[cycle(expr)]
-fn or_from(alloc: Global, cursor: &mut Cursor<'_>, room: usize, aggregates: bool, first: Expr) -> Result<Vec<Expr>, Fault>
+fn or_from(
+    alloc: Global,
+    cursor: &mut Cursor<'_>,
+    room: usize,
+    aggregates: bool,
+    first: Expr,
+) -> Result<Vec<Expr>, Fault>
     ensures { Reads (λ parts. trees_of parts.items) (spec.or_from (spec.expr room) aggregates (tree_of first ∷ []) cursor.old) result cursor.new }
 {
     let mut found = Vec::new(alloc);
@@ -109,7 +120,13 @@ fn and_node(mut parts: Vec<Expr>) -> Expr
 
 /// The first, and those that follow.
 #[cycle(expr)]
-fn and_from(alloc: Global, cursor: &mut Cursor<'_>, room: usize, aggregates: bool, first: Expr) -> Result<Vec<Expr>, Fault>
+fn and_from(
+    alloc: Global,
+    cursor: &mut Cursor<'_>,
+    room: usize,
+    aggregates: bool,
+    first: Expr,
+) -> Result<Vec<Expr>, Fault>
     ensures { Reads (λ parts. trees_of parts.items) (spec.and_from (spec.expr room) aggregates (tree_of first ∷ []) cursor.old) result cursor.new }
 {
     let mut found = Vec::new(alloc);
@@ -188,7 +205,12 @@ fn rel(alloc: Global, cursor: &mut Cursor<'_>, room: usize, aggregates: bool) ->
 /// Expressions in parentheses.
 #[cycle(expr)]
 #[tactic(auto, unfolding(crate::specs::ExprReading::list))]
-fn list(alloc: Global, cursor: &mut Cursor<'_>, room: usize, aggregates: bool) -> Result<Vec<Expr>, Fault>
+fn list(
+    alloc: Global,
+    cursor: &mut Cursor<'_>,
+    room: usize,
+    aggregates: bool,
+) -> Result<Vec<Expr>, Fault>
     ensures { Reads (λ items. trees_of items.items) (spec.list (spec.expr room) aggregates cursor.old) result cursor.new }
 {
     cursor.open()?;
@@ -208,7 +230,13 @@ fn list(alloc: Global, cursor: &mut Cursor<'_>, room: usize, aggregates: bool) -
 
 /// The first, and those that follow.
 #[cycle(expr)]
-fn list_from(alloc: Global, cursor: &mut Cursor<'_>, room: usize, aggregates: bool, first: Expr) -> Result<Vec<Expr>, Fault>
+fn list_from(
+    alloc: Global,
+    cursor: &mut Cursor<'_>,
+    room: usize,
+    aggregates: bool,
+    first: Expr,
+) -> Result<Vec<Expr>, Fault>
     ensures { Reads (λ items. trees_of items.items) (spec.list_from (spec.expr room) aggregates (tree_of first ∷ []) cursor.old) result cursor.new }
 {
     let mut found = Vec::new(alloc);
@@ -248,7 +276,12 @@ fn sum_node(alloc: Global, first: Expr, rest: Vec<Signed>) -> Result<Expr, Memor
 
 /// What follows the first.
 #[cycle(expr)]
-fn sum_rest(alloc: Global, cursor: &mut Cursor<'_>, room: usize, aggregates: bool) -> Result<Vec<Signed>, Fault>
+fn sum_rest(
+    alloc: Global,
+    cursor: &mut Cursor<'_>,
+    room: usize,
+    aggregates: bool,
+) -> Result<Vec<Signed>, Fault>
     ensures { Reads (λ rest. signs_of rest.items) (spec.sum_rest (spec.expr room) aggregates cursor.old) result cursor.new }
 {
     let mut found = Vec::new(alloc);
@@ -265,10 +298,7 @@ fn sum_rest(alloc: Global, cursor: &mut Cursor<'_>, room: usize, aggregates: boo
             Some(Shape::Minus) => {
                 cursor.advance();
                 let value = product(alloc, cursor, room, aggregates)?;
-                found.push(Signed {
-                    minus: true,
-                    value,
-                })?;
+                found.push(Signed { minus: true, value })?;
             }
             _ => return Ok(found),
         }
@@ -279,7 +309,12 @@ fn sum_rest(alloc: Global, cursor: &mut Cursor<'_>, room: usize, aggregates: boo
 /// Products and quotients.
 #[cycle(expr)]
 #[tactic(auto, unfolding(crate::specs::ExprReading::product))]
-fn product(alloc: Global, cursor: &mut Cursor<'_>, room: usize, aggregates: bool) -> Result<Expr, Fault>
+fn product(
+    alloc: Global,
+    cursor: &mut Cursor<'_>,
+    room: usize,
+    aggregates: bool,
+) -> Result<Expr, Fault>
     ensures { Reads tree_of (spec.product (spec.expr room) aggregates cursor.old) result cursor.new }
 {
     let first = unary(alloc, cursor, room, aggregates)?;
@@ -299,7 +334,12 @@ fn product_node(alloc: Global, first: Expr, rest: Vec<Factor>) -> Result<Expr, M
 
 /// What follows the first.
 #[cycle(expr)]
-fn product_rest(alloc: Global, cursor: &mut Cursor<'_>, room: usize, aggregates: bool) -> Result<Vec<Factor>, Fault>
+fn product_rest(
+    alloc: Global,
+    cursor: &mut Cursor<'_>,
+    room: usize,
+    aggregates: bool,
+) -> Result<Vec<Factor>, Fault>
     ensures { Reads (λ rest. factors_of rest.items) (spec.product_rest (spec.expr room) aggregates cursor.old) result cursor.new }
 {
     let mut found = Vec::new(alloc);
@@ -341,7 +381,12 @@ fn begins_number(shape: Option<Shape>) -> bool
 /// An atom behind a sign or none; a sign before a number belongs to it.
 #[cycle(expr)]
 #[tactic(auto, unfolding(crate::specs::ExprReading::unary))]
-fn unary(alloc: Global, cursor: &mut Cursor<'_>, room: usize, aggregates: bool) -> Result<Expr, Fault>
+fn unary(
+    alloc: Global,
+    cursor: &mut Cursor<'_>,
+    room: usize,
+    aggregates: bool,
+) -> Result<Expr, Fault>
     ensures { Reads tree_of (spec.unary (spec.expr room) aggregates cursor.old) result cursor.new }
 {
     match cursor.peek() {
@@ -375,7 +420,12 @@ fn unary(alloc: Global, cursor: &mut Cursor<'_>, room: usize, aggregates: bool) 
 /// A variable, a term, a call, an aggregate where one may stand, or what stands in parentheses.
 #[cycle(expr)]
 #[tactic(auto, unfolding(crate::specs::ExprReading::atom))]
-fn atom(alloc: Global, cursor: &mut Cursor<'_>, room: usize, aggregates: bool) -> Result<Expr, Fault>
+fn atom(
+    alloc: Global,
+    cursor: &mut Cursor<'_>,
+    room: usize,
+    aggregates: bool,
+) -> Result<Expr, Fault>
     ensures { Reads tree_of (spec.atom (spec.expr room) aggregates cursor.old) result cursor.new }
 {
     match cursor.peek() {
@@ -448,7 +498,13 @@ fn distinct(cursor: &mut Cursor<'_>) -> Result<bool, Fault>
 /// The arguments of a function, as many as it takes.
 #[cycle(expr)]
 #[tactic(auto, unfolding(crate::specs::ExprReading::call))]
-pub fn call(alloc: Global, cursor: &mut Cursor<'_>, room: usize, aggregates: bool, function: Function) -> Result<Expr, Fault>
+pub fn call(
+    alloc: Global,
+    cursor: &mut Cursor<'_>,
+    room: usize,
+    aggregates: bool,
+    function: Function,
+) -> Result<Expr, Fault>
     ensures { Reads tree_of (spec.call (spec.expr room) aggregates function cursor.old) result cursor.new }
 {
     match function {
@@ -467,7 +523,13 @@ pub fn call(alloc: Global, cursor: &mut Cursor<'_>, room: usize, aggregates: boo
 /// The argument of an aggregate.
 #[cycle(expr)]
 #[tactic(auto, unfolding(crate::specs::ExprReading::aggregate))]
-pub fn aggregate(alloc: Global, cursor: &mut Cursor<'_>, room: usize, aggregates: bool, kind: AggregateKind) -> Result<Expr, Fault>
+pub fn aggregate(
+    alloc: Global,
+    cursor: &mut Cursor<'_>,
+    room: usize,
+    aggregates: bool,
+    kind: AggregateKind,
+) -> Result<Expr, Fault>
     ensures { Reads tree_of (spec.aggregate (spec.expr room) aggregates kind cursor.old) result cursor.new }
 {
     cursor.open()?;

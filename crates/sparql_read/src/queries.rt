@@ -245,7 +245,12 @@ fn one_item(alloc: Global, cursor: &mut Cursor<'_>, room: usize) -> Result<Selec
 }
 
 /// The first item, and those that follow.
-fn items_from(alloc: Global, cursor: &mut Cursor<'_>, room: usize, first: SelectItem) -> Result<Vec<SelectItem>, Fault>
+fn items_from(
+    alloc: Global,
+    cursor: &mut Cursor<'_>,
+    room: usize,
+    first: SelectItem,
+) -> Result<Vec<SelectItem>, Fault>
     ensures { Reads (λ found. map item_of found.items) (spec.items_from room (item_of first ∷ []) cursor.old) result cursor.new }
 {
     let mut found = Vec::new(alloc);
@@ -345,7 +350,12 @@ fn one_key(alloc: Global, cursor: &mut Cursor<'_>, room: usize) -> Result<GroupK
 }
 
 /// The first key, and those that follow.
-fn keys_from(alloc: Global, cursor: &mut Cursor<'_>, room: usize, first: GroupKey) -> Result<Items<GroupKey>, Fault>
+fn keys_from(
+    alloc: Global,
+    cursor: &mut Cursor<'_>,
+    room: usize,
+    first: GroupKey,
+) -> Result<Items<GroupKey>, Fault>
     ensures { Reads (λ found. map key_of found) (spec.keys_from room (key_of first ∷ []) cursor.old) result cursor.new }
 {
     let mut found = Items::new(alloc);
@@ -378,7 +388,12 @@ fn grouping(alloc: Global, cursor: &mut Cursor<'_>, room: usize) -> Result<Items
 }
 
 /// The first condition, and those that follow.
-fn having_from(alloc: Global, cursor: &mut Cursor<'_>, room: usize, first: Expr) -> Result<Items<Expr>, Fault>
+fn having_from(
+    alloc: Global,
+    cursor: &mut Cursor<'_>,
+    room: usize,
+    first: Expr,
+) -> Result<Items<Expr>, Fault>
     ensures { Reads trees_of (spec.having_from room (tree_of first ∷ []) cursor.old) result cursor.new }
 {
     let mut found = Items::new(alloc);
@@ -411,7 +426,12 @@ fn having(alloc: Global, cursor: &mut Cursor<'_>, room: usize) -> Result<Items<E
 
 /// What follows `ASC` or `DESC`.
 #[tactic(auto, unfolding(crate::specs::QueryReading::directed))]
-fn directed(alloc: Global, cursor: &mut Cursor<'_>, room: usize, descending: bool) -> Result<OrderKey, Fault>
+fn directed(
+    alloc: Global,
+    cursor: &mut Cursor<'_>,
+    room: usize,
+    descending: bool,
+) -> Result<OrderKey, Fault>
     ensures { Reads order_of (spec.directed room descending cursor.old) result cursor.new }
 {
     cursor.open()?;
@@ -449,7 +469,12 @@ fn one_order(alloc: Global, cursor: &mut Cursor<'_>, room: usize) -> Result<Orde
 }
 
 /// The first key of the order, and those that follow.
-fn orders_from(alloc: Global, cursor: &mut Cursor<'_>, room: usize, first: OrderKey) -> Result<Items<OrderKey>, Fault>
+fn orders_from(
+    alloc: Global,
+    cursor: &mut Cursor<'_>,
+    room: usize,
+    first: OrderKey,
+) -> Result<Items<OrderKey>, Fault>
     ensures { Reads (λ found. map order_of found) (spec.orders_from room (order_of first ∷ []) cursor.old) result cursor.new }
 {
     let mut found = Items::new(alloc);

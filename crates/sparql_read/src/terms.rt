@@ -14,9 +14,13 @@ use std::alloc::Global;
 use term_core::{Memory, Term, Text};
 
 const XSD_STRING: &str = "http://www.w3.org/2001/XMLSchema#string";
+
 const XSD_INTEGER: &str = "http://www.w3.org/2001/XMLSchema#integer";
+
 const XSD_DECIMAL: &str = "http://www.w3.org/2001/XMLSchema#decimal";
+
 const XSD_BOOLEAN: &str = "http://www.w3.org/2001/XMLSchema#boolean";
+
 const LANG_STRING: &str = "http://www.w3.org/1999/02/22-rdf-syntax-ns#langString";
 
 /// A literal without a tag.

@@ -51,11 +51,7 @@ fn row(alloc: Global, cursor: &mut Cursor<'_>, variables: &[Text]) -> Result<Row
 }
 
 /// Rows of one variable, up to `}`.
-fn one_rows(
-    alloc: Global,
-    cursor: &mut Cursor<'_>,
-    variables: &[Text],
-) -> Result<Items<Row>, Fault>
+fn one_rows(alloc: Global, cursor: &mut Cursor<'_>, variables: &[Text]) -> Result<Items<Row>, Fault>
     ensures { Reads same (spec.one_rows variables.now cursor.old) result cursor.new }
 {
     let mut found = Items::new(alloc);

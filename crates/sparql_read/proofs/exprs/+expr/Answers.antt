@@ -1,6 +1,6 @@
 use Rattle.std.proofs.Common.{◌≡◌, ◌-◌, suc, ap, arith, rules}
 use Rattle.std.proofs.lemmas.Grind.{common_steps}
-use Rattle.sparql_tree.specs.ExprTrees.{tree_of, trees_of, signs_of, factors_of}
+use Rattle.sparql_tree.specs.ExprTrees.{trees_of, signs_of, factors_of}
 use Rattle.sparql_read.specs.Parser.{more, all_more}
 use Rattle.sparql_read.specs.ExprReading as spec
 use Rattle.sparql_read.specs.ExprReading.{expr, or_from, and_from, list_from, sum_rest, product_rest}
@@ -168,4 +168,3 @@ unfolding more
 product_rest-returns t c =
     let e = no_turn_left (λ n. more (spec.product_turn (expr c.args.room) c.args.aggregates) n (factors_of c.loop-turn.found.items) c.loop-turn.cursor) _ c.loop-turn._turn c.loop-turn-test.false c.loop-turn.invariant in
     first_of (search rules, grind (arith, common_steps))
-

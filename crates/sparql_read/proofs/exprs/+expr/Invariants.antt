@@ -66,4 +66,3 @@ invariant-sum_rest-loop-turn l = spec.sum_rest (spec.expr l.room) l.aggregates l
 
 abbrev pub invariant-product_rest-loop-turn : goal.invariant-product_rest-loop-turn
 invariant-product_rest-loop-turn l = spec.product_rest (spec.expr l.room) l.aggregates l.fn.cursor ≡ more (spec.product_turn (spec.expr l.room) l.aggregates) (l._turn-end - l._turn) (factors_of l.found.items) l.cursor
-

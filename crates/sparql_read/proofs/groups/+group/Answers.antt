@@ -2,7 +2,7 @@ use Rattle.std.proofs.Common.{◌≡◌, ◌-◌, suc, ap, arith, rules}
 use Rattle.std.proofs.lemmas.Grind.{common_steps}
 use Rattle.sparql_read.specs.Parser.{more, all_more, repeat, all_steps}
 use Rattle.sparql_read.proofs.Turns.{turn_left, no_turn_left}
-use Rattle.sparql_tree.specs.GroupTrees.{element_of, elements_of, group_of, groups_of}
+use Rattle.sparql_tree.specs.GroupTrees.{elements_of, groups_of}
 use Rattle.sparql_read.specs.ExprReading.{expr}
 use Rattle.sparql_read.specs.GroupReading as spec
 use Rattle.sparql_read.specs.GroupReading.{group, body, union_from}

@@ -1,6 +1,6 @@
-use Rattle.std.proofs.Common.{◌≡◌, [], ◌∷◌, ◌+◌, ◌*◌, ◌-◌, drop}
+use Rattle.std.proofs.Common.{◌≡◌, [], ◌∷◌, ◌+◌, ◌*◌, ◌-◌}
 use Rattle.sparql_read.specs.Parser.{more, repeat}
-use Rattle.sparql_tree.specs.GroupTrees.{element_of, elements_of, group_of, groups_of}
+use Rattle.sparql_tree.specs.GroupTrees.{elements_of, group_of, groups_of}
 use Rattle.sparql_read.specs.ExprReading.{expr}
 use Rattle.sparql_read.specs.GroupReading as spec
 use Rattle.sparql_read.proofs.groups.+group.Given as goal

@@ -1,10 +1,8 @@
-use Rattle.std.proofs.Common.{◌≡◌, ◌-◌, suc, ap, arith, rules}
+use Rattle.std.proofs.Common.{arith, rules}
 use Rattle.std.proofs.lemmas.Grind.{common_steps}
 use Rattle.sparql_read.specs.Parser.{more, all_more}
 use Rattle.sparql_read.proofs.Turns.{turn_left, no_turn_left}
-use Rattle.std.specs.Prelude.{map}
-use Rattle.sparql_tree.specs.ExprTrees.{tree_of, trees_of}
-use Rattle.sparql_tree.specs.GroupTrees.{item_of, key_of, order_of}
+use Rattle.sparql_tree.specs.ExprTrees.{trees_of}
 use Rattle.sparql_read.specs.QueryReading as spec
 use Rattle.sparql_read.proofs.queries.having_from.Goals as goal
 

@@ -1,7 +1,6 @@
 use Rattle.std.proofs.Common.{◌≡◌, [], ◌∷◌, ◌-◌}
 use Rattle.std.specs.Prelude.{map}
-use Rattle.sparql_tree.specs.ExprTrees.{tree_of, trees_of}
-use Rattle.sparql_tree.specs.GroupTrees.{item_of, key_of, order_of}
+use Rattle.sparql_tree.specs.GroupTrees.{item_of}
 use Rattle.sparql_read.specs.Parser.{more}
 use Rattle.sparql_read.specs.QueryReading as spec
 use Rattle.sparql_read.proofs.queries.items_from.Given as goal

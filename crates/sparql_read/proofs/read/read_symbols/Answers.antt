@@ -1,4 +1,4 @@
-use Rattle.std.proofs.Common.{◌≡◌, sym, subst, None}
+use Rattle.std.proofs.Common.{sym, subst}
 use Rattle.sparql_read.specs.Reads.{Fails}
 use Rattle.sparql_read.proofs.Spelled.{query-spelled, none-spelled, more-left}
 use Rattle.sparql_read.specs.Written.{written_of}

@@ -1,5 +1,4 @@
-use Rattle.std.proofs.Common.{◌≡◌, [], ◌∷◌, ◌+◌, ◌*◌, ◌-◌, drop}
-use Rattle.sparql_read.specs.Parser.{more, repeat}
+use Rattle.std.proofs.Common.{◌≡◌, ◌-◌}
 use Rattle.sparql_read.specs.TripleReading as spec
 use Rattle.sparql_read.proofs.triples.block.Given as goal
 

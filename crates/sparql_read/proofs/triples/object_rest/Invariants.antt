@@ -1,5 +1,5 @@
-use Rattle.std.proofs.Common.{◌≡◌, [], ◌∷◌, ◌+◌, ◌*◌, ◌-◌, drop}
-use Rattle.sparql_read.specs.Parser.{more, repeat}
+use Rattle.std.proofs.Common.{◌≡◌, ◌-◌}
+use Rattle.sparql_read.specs.Parser.{more}
 use Rattle.sparql_read.specs.TripleReading as spec
 use Rattle.sparql_read.proofs.triples.object_rest.Given as goal
 

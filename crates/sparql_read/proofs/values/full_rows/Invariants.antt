@@ -1,5 +1,5 @@
-use Rattle.std.proofs.Common.{◌≡◌, [], ◌∷◌, ◌+◌, ◌*◌, ◌-◌, drop}
-use Rattle.sparql_read.specs.Parser.{more, repeat}
+use Rattle.std.proofs.Common.{◌≡◌, ◌-◌}
+use Rattle.sparql_read.specs.Parser.{more}
 use Rattle.sparql_read.specs.ValueReading as spec
 use Rattle.sparql_read.proofs.values.full_rows.Given as goal
 

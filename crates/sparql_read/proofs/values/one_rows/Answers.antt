@@ -1,6 +1,6 @@
-use Rattle.std.proofs.Common.{◌≡◌, ◌-◌, suc, ap, arith, rules}
+use Rattle.std.proofs.Common.{arith, rules}
 use Rattle.std.proofs.lemmas.Grind.{common_steps}
-use Rattle.sparql_read.specs.Parser.{more, all_more, repeat, all_steps}
+use Rattle.sparql_read.specs.Parser.{more, all_more}
 use Rattle.sparql_read.proofs.Turns.{turn_left, no_turn_left}
 use Rattle.sparql_read.specs.ValueReading as spec
 use Rattle.sparql_read.specs.ValueReading.{row, row_with, one_rows, names, full_rows}

@@ -1,4 +1,4 @@
-use Rattle.std.proofs.Common.{◌≡◌, ap, arith, rules}
+use Rattle.std.proofs.Common.{arith, rules}
 use Rattle.std.proofs.lemmas.Grind.{common_steps}
 use Rattle.sparql_read.specs.ValueReading.{row}
 use Rattle.sparql_read.proofs.RowTurns.{row_turn, row_over}

@@ -1,5 +1,4 @@
-use Rattle.std.proofs.Common.{◌≡◌, [], ◌∷◌, ◌+◌, ◌*◌, ◌-◌, drop}
-use Rattle.sparql_read.specs.Parser.{more, repeat}
+use Rattle.std.proofs.Common.{◌≡◌, drop}
 use Rattle.sparql_read.specs.ValueReading as spec
 use Rattle.sparql_read.proofs.values.row.Given as goal
 
