@@ -17,3 +17,5 @@ pub mod QueryReading
 pub mod Written
 pub mod Counts
 pub mod Refusals
+pub mod Scopes
+pub mod Breaches
