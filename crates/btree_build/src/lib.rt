@@ -1,8 +1,8 @@
-//! Writes sorted lists of numbered triples into blocks.
+//! Writes sorted lists of numbered triples, as bytes and into blocks.
 #![tactic(auto)]
 
 mod packing;
 #[cfg(test)]
 mod tests;
 
-pub use packing::image;
+pub use packing::{image, push_entries};

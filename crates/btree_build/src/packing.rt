@@ -25,29 +25,29 @@ fn put_zeros(out: &mut Items<u8>, count: usize) -> Result<(), Memory>
 }
 
 /// An id in four bytes, the highest first.
-fn put_id(out: &mut Items<u8>, id: u32) -> Result<(), Memory>
-    ensures { OnOk result (out.new ≡ out.old ++ to_be_bytes w32 id) }
+fn push_id(out: &mut Vec<u8>, id: u32) -> Result<(), Memory>
+    ensures { OnOk result (out.new.items ≡ out.old.items ++ to_be_bytes w32 id) }
 {
-    put_bytes(out, &id.to_be_bytes())
+    out.extend_from_slice(&id.to_be_bytes())?;
+    Ok(())
 }
 
-fn put_entry(out: &mut Items<u8>, entry: &IdTriple) -> Result<(), Memory>
-    ensures { OnOk result (out.new ≡ out.old ++ entry_bytes entry.now) }
+fn push_entry(out: &mut Vec<u8>, entry: &IdTriple) -> Result<(), Memory>
+    ensures { OnOk result (out.new.items ≡ out.old.items ++ entry_bytes entry.now) }
 {
-    put_id(out, entry.s)?;
-    put_id(out, entry.p)?;
-    put_id(out, entry.o)
+    push_id(out, entry.s)?;
+    push_id(out, entry.p)?;
+    push_id(out, entry.o)
 }
 
-/// The bytes of the entries, one behind the other.
-fn packed(alloc: Global, entries: &[IdTriple]) -> Result<Items<u8>, Memory>
-    ensures { IfOk result (λ bytes. bytes ≡ list_bytes entries.now) }
+/// Appends the bytes of the entries, 12 for each, one behind the other without gaps.
+pub fn push_entries(out: &mut Vec<u8>, entries: &[IdTriple]) -> Result<(), Memory>
+    ensures { OnOk result (out.new.items ≡ out.old.items ++ list_bytes entries.now) }
 {
-    let mut bytes = Items::new(alloc);
     for entry in entries {
-        put_entry(&mut bytes, entry)?;
+        push_entry(out, entry)?;
     }
-    Ok(bytes)
+    Ok(())
 }
 
 /// The bytes in blocks that keep so many of them each, with zeros behind them.
@@ -79,6 +79,7 @@ pub fn image(alloc: Global, entries: &[IdTriple], payload: u32) -> Result<Items<
     requires payload { (payload ≡ 4096) ⊎ (payload ≡ 4080) }
     ensures { IfOk result (λ image. image ≡ list_image payload entries.now) }
 {
-    let bytes = packed(alloc, entries)?;
+    let mut bytes = Vec::with_capacity(alloc, 12 * entries.len())?;
+    push_entries(&mut bytes, entries)?;
     blocked(alloc, bytes.as_slice(), payload as usize)
 }

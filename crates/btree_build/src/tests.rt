@@ -1,5 +1,5 @@
 // Lists whose bytes are known.
-use crate::image;
+use crate::{image, push_entries};
 use std::alloc::Global;
 use std::process::Abort;
 use std::test::Fail;
@@ -92,5 +92,18 @@ fn entries_go_on_in_the_next_block(rt: HostRuntime) -> Result<(), Fail> {
         assert!(rt; at < bytes.len());
         assert!(rt; bytes[at..].starts_with(&wanted));
     }
+    Ok(())
+}
+
+#[test]
+fn entries_are_appended(rt: HostRuntime) -> Result<(), Fail> {
+    let list = entries(rt.alloc(), 2)?;
+    let mut out = Vec::new(rt.alloc());
+    out.push(7)?;
+    push_entries(&mut out, &list)?;
+    assert_eq!(rt;
+        out.as_slice(),
+        b"\x07\x01\x02\x03\x04\0\0\0\0\xff\xfe\xfd\xfc\x01\x02\x03\x04\0\0\0\x01\xff\xfe\xfd\xfc".as_slice()
+    );
     Ok(())
 }

@@ -64,6 +64,15 @@ front_le n x y e =
     chosen (n == 0) _ _ refl (chosen (n == 1) _ _ (first_le (nat_cmp x.s y.s) _ e)
     (chosen (n == 2) _ _ (pair_le (nat_cmp x.s y.s) (nat_cmp x.p y.p) (nat_cmp x.o y.o) e) (ap is_le e)))
 
+le_of : (r : Ordering) → is_lt r ≡ true → is_le r ≡ true
+le_of Less e = refl
+le_of Equal e = cc
+le_of Greater e = cc
+
+-- what stands before the keys with a prefix stands before what follows them
+pub through_too : (prefix : Prefix) (e : IdTriple) → before false prefix e ≡ true → before true prefix e ≡ true
+through_too prefix e h = le_of (prefix_cmp prefix e) h
+
 less_of : (r : Ordering) → is_lt r ≡ true → r ≡ Less
 less_of Less e = refl
 less_of Equal e = cc

@@ -9,12 +9,11 @@ use Rattle.plan_tree.specs.Trace.{Plan, steps}
 use Rattle.plan_tree.specs.Pages.{Page, IsNext, page_end, IsPage, IsRun, AreQuanta, walked, rows_in, steps_in, next_length, longest_in}
 use Rattle.plan_tree.specs.StateLaws.{TakesSteps}
 use Rattle.plan_tree.proofs.Runs.{takes_steps, goes_round}
-use Rattle.pattern_page.specs.declared.page.Part.{Part}
 use Rattle.pattern_page.specs.declared.follow.Counts.{Counts}
 use Rattle.pattern_page.specs.declared.follow.Walk.{Walk}
 use Rattle.pattern_page.specs.Part.{part_text, part_plan}
 use Rattle.pattern_page.specs.Results.{line}
-use Rattle.pattern_page.specs.PagesOf.{IsPart}
+use Rattle.pattern_page.specs.PagesOf.{Seen, IsOf}
 use Rattle.pattern_page.specs.Followed.{next_in, Begins, IsPaged, IsFront, AreGiven, IsWalked, IsFollowed}
 use Rattle.pattern_page.proofs.FollowLinks.{begins_below}
 
@@ -56,7 +55,7 @@ module _ (D : List Triple) (plan : Plan) (text : List ℕ) (quanta : ℕ → ℕ
   front_run k m n [] f e = f ∙ e
   front_run k m n (p ∷ pages) (l, is, rest) e = (l, is, front_run (k + 1) (m + p.steps) n pages rest e)
 
-module _ (D : List Triple) (pattern : Pattern) (part : Part) (h : IsPart D pattern part) (quanta : List ℕ) (are : AreQuanta quanta) (names : List Name) where
+module _ (D : List Triple) (pattern : Pattern) (part : Seen) (h : IsOf D pattern part) (quanta : List ℕ) (are : AreQuanta quanta) (names : List Name) where
   taken : (k n : ℕ) (next : Option (List ℕ)) (page : Page) → Begins D pattern n next → IsPage D (part_plan pattern) (part_text pattern) n (walked quanta k) page → TakesSteps D (part_plan pattern) n (walked quanta k) page
   taken k n next page b is = takes_steps D (part_plan pattern) (part_text pattern) n (walked quanta k) page (begins_below D pattern part h n next b) ((goes_round quanta are).some k) is
 

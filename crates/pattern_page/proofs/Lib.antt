@@ -1,4 +1,5 @@
 pub mod StateBytes
+pub mod Refusals
 pub mod PageLists
 pub mod PageCursor
 pub mod PageRun

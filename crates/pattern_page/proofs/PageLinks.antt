@@ -1,5 +1,5 @@
 -- The cursors of a part and the states of its plan.
-use Rattle.std.proofs.Common.{◌≡◌, ℕ, zero, suc, ◌+◌, ◌<◌, ◌≤◌, List, [], ◌∷◌, ◌++◌, length, map, take, drop, Option, Some, None, Ok, Err, refl, sym, ap, ◌∙◌, subst, arith, length-append}
+use Rattle.std.proofs.Common.{◌≡◌, ℕ, zero, suc, ◌+◌, ◌<◌, ◌≤◌, List, [], ◌∷◌, ◌++◌, length, map, take, drop, Option, Some, None, Result, Ok, Err, IfOk, IfErr, refl, sym, ap, ◌∙◌, subst, arith, length-append}
 use Rattle.std.specs.Prelude.{slice_get, slice_index_or, option_map, flat_map}
 use Rattle.std.proofs.lemmas.List.{length-map}
 use Rattle.std.proofs.lemmas.Option.{slice_get-map, slice_get-get_or}
@@ -20,21 +20,18 @@ use Rattle.plan_tree.specs.OnePattern.{matches, solution_of, entry_of, fresh_sta
 use Rattle.plan_tree.specs.Pages.{IsNext, page_end, IsPage}
 use Rattle.plan_tree.proofs.Ranked.{In-slice_get, rank_is}
 use Rattle.plan_tree.proofs.Single.{pattern_trace, pattern_states, state_is, entry_kept}
-use Rattle.pattern_page.specs.declared.page.Part.{Part}
 use Rattle.pattern_page.specs.declared.page.Page as code_page
+use Rattle.triple_store.specs.Stores.{View}
+use Rattle.pattern_page.specs.declared.page.PageFault.{PageFault}
 use Rattle.pattern_page.specs.declared.page.PageFault.TheVariants as faults
 use Rattle.pattern_page.specs.declared.page.Cursor.{Cursor}
 use Rattle.pattern_page.specs.declared.page.Cursor.TheVariants as cursors
-use Rattle.pattern_data.specs.Table.{terms_in, term_at, decode, IsBelow}
-use Rattle.pattern_data.specs.Range.{triples_in}
+use Rattle.triple_table.specs.Table.{term_at, decode, IsBelow}
 use Rattle.pattern_page.specs.Part.{part_text, part_plan}
 use Rattle.pattern_page.specs.StateReading.{at_state}
-use Rattle.pattern_page.specs.PagesOf.{IsPart, HasData, IsSound, entry_at, rest_of, left_at, IsWithin, place_at, cursor_state, spelled, saved_at, Loads, Starts, IsPageFrom, page_of, Resumes, NoState, Answers}
+use Rattle.pattern_page.specs.PagesOf.{Seen, IsOf, IsSound, entry_at, rest_of, left_at, IsWithin, place_at, cursor_state, spelled, saved_at, Loads, Starts, IsPageFrom, page_of, Resumes, NoState, Answers, IsRefusal}
 use Rattle.pattern_page.proofs.PageLists.{length-drop_sum, left_length}
 use Rattle.pattern_page.proofs.PageCursor.{saved_state}
-
-pub sound_of : (part : Part) → HasData part → IsSound part
-sound_of part (D, h) = record { few = h.table_is.few; ordered = h.ordered; below = h.below }
 
 -- the entries
 map_same : {X Y : Type 0} (f g : X → Y) (xs : List X) → ((x : X) → f x ≡ g x) → map f xs ≡ map g xs
@@ -45,23 +42,23 @@ map_twice : {X Y Z : Type 0} (f : Y → Z) (g : X → Y) (xs : List X) → map f
 map_twice f g [] = refl
 map_twice f g (x ∷ xs) = ap (λ w. f (g x) ∷ w) (map_twice f g xs)
 
-module _ (D : List Triple) (pattern : Pattern) (part : Part) (h : IsPart D pattern part) where
-  entries_same : map (entry_of (pattern_of pattern) (names_in (pattern_of pattern))) (matches D (pattern_of pattern)) ≡ map (entry_at part) (triples_in part.range)
+module _ (D : List Triple) (pattern : Pattern) (part : Seen) (h : IsOf D pattern part) where
+  entries_same : map (entry_of (pattern_of pattern) (names_in (pattern_of pattern))) (matches D (pattern_of pattern)) ≡ map (entry_at part) (part.triples)
   entries_same =
       let p = pattern_of pattern in
-      let terms = terms_in part.table.now in
+      let terms = part.terms in
       map_same (entry_of p (names_in p)) (solution_of p) (matches D p) (λ t. entry_kept p (names_in p) t (λ name i. i))
       ∙ ap (map (solution_of p)) (sym h.listing)
-      ∙ map_twice (solution_of p) (decode terms) (triples_in part.range)
-      ∙ ap (λ (w : Pattern). map (λ i. solution_of (pattern_of w) (decode terms i)) (triples_in part.range)) (sym h.same)
+      ∙ map_twice (solution_of p) (decode terms) (part.triples)
+      ∙ ap (λ (w : Pattern). map (λ i. solution_of (pattern_of w) (decode terms i)) (part.triples)) (sym h.same)
 
   pub trace_is : trace D (part_plan pattern) ≡ left_at part cursors.Fresh
   trace_is = (pattern_trace D (pattern_of pattern) (names_in (pattern_of pattern))).entries_are ∙ ap (λ w. None ∷ (w ++ None ∷ None ∷ [])) entries_same
 
-  range_length : length (matches D (pattern_of pattern)) ≡ length (triples_in part.range)
-  range_length = ap (λ (w : List Triple). length w) (sym h.listing) ∙ length-map (triples_in part.range) (decode (terms_in part.table.now))
+  range_length : length (matches D (pattern_of pattern)) ≡ length (part.triples)
+  range_length = ap (λ (w : List Triple). length w) (sym h.listing) ∙ length-map (part.triples) (decode (part.terms))
 
-  pub steps_are : steps D (part_plan pattern) ≡ length (triples_in part.range) + 3
+  pub steps_are : steps D (part_plan pattern) ≡ length (part.triples) + 3
   steps_are = omega (arith, (pattern_trace D (pattern_of pattern) (names_in (pattern_of pattern))).steps_are, range_length)
 
 -- what a cursor leaves is what stands behind its place
@@ -82,33 +79,33 @@ module _ {X : Type 0} (f : X → Option Row) where
 drop_from : (n m : ℕ) (es left : Entries) → n ≡ suc m → left ≡ drop m es → left ≡ drop n (None ∷ es)
 drop_from n m es left e h = subst (λ w. left ≡ drop w (None ∷ es)) (sym e) h
 
-pub left_is : (part : Part) (cursor : Cursor) → IsWithin part cursor → left_at part cursor ≡ drop (place_at part cursor) (left_at part cursors.Fresh)
+pub left_is : (part : Seen) (cursor : Cursor) → IsWithin part cursor → left_at part cursor ≡ drop (place_at part cursor) (left_at part cursors.Fresh)
 left_is part cursors.Fresh w = refl
 left_is part cursors.Opened w = refl
 left_is part (cursors.After place) w =
-    let ids = triples_in part.range in
+    let ids = part.triples in
     drop_from (place + 2) (place + 1) (rest_of part ids) (left_at part (cursors.After place)) (omega arith)
     (sym (drop_mapped (entry_at part) ids (place + 1) (None ∷ None ∷ []) (omega (arith, w))))
 left_is part cursors.Closing w =
-    let ids = triples_in part.range in
+    let ids = part.triples in
     drop_from (length ids + 2) (suc (length ids)) (rest_of part ids) (None ∷ []) (omega arith) (sym (past_one (entry_at part) ids))
 left_is part cursors.Done w =
-    let ids = triples_in part.range in
+    let ids = part.triples in
     drop_from (length ids + 3) (suc (suc (length ids))) (rest_of part ids) [] (omega arith) (sym (past_two (entry_at part) ids))
 
-pub fresh_length : (part : Part) → length (left_at part cursors.Fresh) ≡ length (triples_in part.range) + 3
+pub fresh_length : (part : Seen) → length (left_at part cursors.Fresh) ≡ length (part.triples) + 3
 fresh_length part =
-    let ids = triples_in part.range in
+    let ids = part.triples in
     omega (arith, length-append (map (entry_at part) ids) (None ∷ None ∷ []), length-map ids (entry_at part))
 
-place_inside : (part : Part) (cursor : Cursor) → IsWithin part cursor → place_at part cursor ≤ length (triples_in part.range) + 3
+place_inside : (part : Seen) (cursor : Cursor) → IsWithin part cursor → place_at part cursor ≤ length (part.triples) + 3
 place_inside part cursors.Fresh w = omega arith
 place_inside part cursors.Opened w = omega arith
 place_inside part (cursors.After place) w = omega (arith, w)
 place_inside part cursors.Closing w = omega arith
 place_inside part cursors.Done w = omega arith
 
-pub left_count : (part : Part) (cursor : Cursor) → IsWithin part cursor → length (left_at part cursor) + place_at part cursor ≡ length (triples_in part.range) + 3
+pub left_count : (part : Seen) (cursor : Cursor) → IsWithin part cursor → length (left_at part cursor) + place_at part cursor ≡ length (part.triples) + 3
 left_count part cursor w =
     let n = place_at part cursor in
     let es = left_at part cursors.Fresh in
@@ -116,9 +113,9 @@ left_count part cursor w =
     ap (λ (l : Entries). length l + n) (left_is part cursor w) ∙ length-drop_sum es n inside ∙ fresh_length part
 
 -- the numbers of a triple are its ranks
-module _ (D : List Triple) (pattern : Pattern) (part : Part) (h : IsPart D pattern part) where
+module _ (D : List Triple) (pattern : Pattern) (part : Seen) (h : IsOf D pattern part) where
   abbrev terms : List Term
-  terms = terms_in part.table.now
+  terms = part.terms
 
   pub terms_alike : HaveSame terms (terms_of D)
   terms_alike = record {
@@ -134,15 +131,15 @@ module _ (D : List Triple) (pattern : Pattern) (part : Part) (h : IsPart D patte
       let s = rank_at ids.s b.s in let p = rank_at ids.p b.p in let o = rank_at ids.o b.o in
       λ i. record { s = s i; p = p i; o = o i }
 
-  found_at : (k : ℕ) (ids : IdTriple) → slice_get (triples_in part.range) k ≡ Some ids → slice_get (matches D (pattern_of pattern)) k ≡ Some (decode terms ids)
+  found_at : (k : ℕ) (ids : IdTriple) → slice_get (part.triples) k ≡ Some ids → slice_get (matches D (pattern_of pattern)) k ≡ Some (decode terms ids)
   found_at k ids e =
-      ap (λ (w : List Triple). slice_get w k) (sym h.listing) ∙ slice_get-map (decode terms) (triples_in part.range) k ∙ ap (option_map (decode terms)) e
+      ap (λ (w : List Triple). slice_get w k) (sym h.listing) ∙ slice_get-map (decode terms) (part.triples) k ∙ ap (option_map (decode terms)) e
 
-  below_found : (k : ℕ) (ids : IdTriple) → slice_get (triples_in part.range) k ≡ Some ids → IsBelow (length terms) ids
-  below_found k ids e = h.below ids (In-slice_get (triples_in part.range) k ids e)
+  below_found : (k : ℕ) (ids : IdTriple) → slice_get (part.triples) k ≡ Some ids → IsBelow (length terms) ids
+  below_found k ids e = h.sound.below ids (In-slice_get (part.triples) k ids e)
 
   -- a cursor's state stands at its place
-  after_stands : (place : ℕ) (found : Option IdTriple) (state : State) → slice_get (triples_in part.range) place ≡ found → option_map at_state found ≡ Some state
+  after_stands : (place : ℕ) (found : Option IdTriple) (state : State) → slice_get (part.triples) place ≡ found → option_map at_state found ≡ Some state
       → Stands D (part_plan pattern) state (place + 2)
   after_stands place None state e f = cc
   after_stands place (Some ids) state e f =
@@ -155,15 +152,15 @@ module _ (D : List Triple) (pattern : Pattern) (part : Part) (h : IsPart D patte
       subst (λ (w : State). Stands D (part_plan pattern) w 0) (Some_same fresh_state state e) (pattern_states D (pattern_of pattern) (names_in (pattern_of pattern))).fresh
   cursor_stands cursors.Opened state e =
       subst (λ (w : State). Stands D (part_plan pattern) w 1) (Some_same opened_state state e) (pattern_states D (pattern_of pattern) (names_in (pattern_of pattern))).opened_next
-  cursor_stands (cursors.After place) state e = after_stands place (slice_get (triples_in part.range) place) state refl e
+  cursor_stands (cursors.After place) state e = after_stands place (slice_get (part.triples) place) state refl e
   cursor_stands cursors.Closing state e =
-      subst (λ (w : State). Stands D (part_plan pattern) w (length (triples_in part.range) + 2)) (Some_same closing_state state e)
+      subst (λ (w : State). Stands D (part_plan pattern) w (length (part.triples) + 2)) (Some_same closing_state state e)
       (subst (λ (w : ℕ). Stands D (part_plan pattern) closing_state (w + 2)) (range_length D pattern part h) (pattern_states D (pattern_of pattern) (names_in (pattern_of pattern))).closing)
   cursor_stands cursors.Done state e = cc
 
-  after_end : (place : ℕ) (found : Option IdTriple) → place < length (triples_in part.range) → slice_get (triples_in part.range) place ≡ found → option_map at_state found ≡ None → ⊥
+  after_end : (place : ℕ) (found : Option IdTriple) → place < length (part.triples) → slice_get (part.triples) place ≡ found → option_map at_state found ≡ None → ⊥
   after_end place None w e f =
-      let there : slice_get (triples_in part.range) place ≡ Some (slice_index_or (triples_in part.range) place (record { s = 0; p = 0; o = 0 })) = slice_get-get_or (triples_in part.range) place (record { s = 0; p = 0; o = 0 }) w in
+      let there : slice_get (part.triples) place ≡ Some (slice_index_or (part.triples) place (record { s = 0; p = 0; o = 0 })) = slice_get-get_or (part.triples) place (record { s = 0; p = 0; o = 0 }) w in
       cc
   after_end place (Some ids) w e f = cc
 
@@ -171,7 +168,7 @@ module _ (D : List Triple) (pattern : Pattern) (part : Part) (h : IsPart D patte
   cursor_ends : (cursor : Cursor) → IsWithin part cursor → cursor_state part cursor ≡ None → place_at part cursor ≡ steps D (part_plan pattern)
   cursor_ends cursors.Fresh w e = cc
   cursor_ends cursors.Opened w e = cc
-  cursor_ends (cursors.After place) w e = absurd (after_end place (slice_get (triples_in part.range) place) w refl e)
+  cursor_ends (cursors.After place) w e = absurd (after_end place (slice_get (part.triples) place) w refl e)
   cursor_ends cursors.Closing w e = cc
   cursor_ends cursors.Done w e = sym (steps_are D pattern part h)
 
@@ -221,17 +218,17 @@ module _ (D : List Triple) (pattern : Pattern) (part : Part) (h : IsPart D patte
 
   record Located (k : ℕ) (t : Triple) : Type 0 where
     ids : IdTriple
-    found : slice_get (triples_in part.range) k ≡ Some ids
+    found : slice_get (part.triples) k ≡ Some ids
     is : ids_of D t ≡ ids
-    within : k < length (triples_in part.range)
+    within : k < length (part.triples)
 
-  located_in : (k : ℕ) (t : Triple) (found : Option IdTriple) → slice_get (triples_in part.range) k ≡ found → option_map (decode terms) found ≡ Some t → Located k t
+  located_in : (k : ℕ) (t : Triple) (found : Option IdTriple) → slice_get (part.triples) k ≡ found → option_map (decode terms) found ≡ Some t → Located k t
   located_in k t None e f = cc
   located_in k t (Some ids) e f = record {
     ids = ids;
     found = e;
     is = ap (ids_of D) (sym (Some_same (decode terms ids) t f)) ∙ ids_decoded ids (below_found k ids e);
-    within = inside (triples_in part.range) k ids e;
+    within = inside (part.triples) k ids e;
   }
     where
       inside : (is : List IdTriple) (j : ℕ) (x : IdTriple) → slice_get is j ≡ Some x → j < length is
@@ -240,8 +237,8 @@ module _ (D : List Triple) (pattern : Pattern) (part : Part) (h : IsPart D patte
       inside (y ∷ is) (suc j) x g = omega (arith, inside is j x g)
 
   located : (k : ℕ) (t : Triple) → slice_get (matches D (pattern_of pattern)) k ≡ Some t → Located k t
-  located k t e = located_in k t (slice_get (triples_in part.range) k) refl
-      (sym (slice_get-map (decode terms) (triples_in part.range) k) ∙ ap (λ (w : List Triple). slice_get w k) h.listing ∙ e)
+  located k t e = located_in k t (slice_get (part.triples) k) refl
+      (sym (slice_get-map (decode terms) (part.triples) k) ∙ ap (λ (w : List Triple). slice_get w k) h.listing ∙ e)
 
   no_form : (bytes : List ℕ) (state : State) (n : ℕ) → Loads part bytes None → bytes ≡ plan_bytes D (part_text pattern) state → IsPatternState D (pattern_of pattern) state n → ⊥
   no_form bytes state n none e (is_fresh is at) = none cursors.Fresh tt (saved_from cursors.Fresh bytes state fresh_state is refl e)
@@ -260,10 +257,20 @@ module _ (D : List Triple) (pattern : Pattern) (part : Part) (h : IsPart D patte
       page_is cursors.Fresh quantum page tt (subst (λ (w : Cursor). IsPageFrom part w quantum page) fresh f)
   answered (Some bytes) start quantum page s f = resumed start quantum page bytes s.0 s.1 f
 
+  -- the page of a cursor, or a refusal that is none of its bytes
+  pub answered_all : (next : Option (List ℕ)) (start : Cursor) (quantum : ℕ) (r : Result code_page.Page PageFault) (a b : View) → Starts part next (Some start)
+      → IfOk r (IsPageFrom part start quantum) → IfErr r (λ e. IsRefusal e a b) → Answers D pattern next quantum r
+  answered_all next start quantum (Ok page) a b s f e = answered next start quantum page s f
+  answered_all next start quantum (Err faults.Plan) a b s f e = absurd e
+  answered_all None start quantum (Err faults.Memory) a b s f e = tt
+  answered_all (Some bytes) start quantum (Err faults.Memory) a b s f e = tt
+  answered_all None start quantum (Err (faults.Store fault)) a b s f e = tt
+  answered_all (Some bytes) start quantum (Err (faults.Store fault)) a b s f e = tt
+
   pub unanswered : (next : Option (List ℕ)) (quantum : ℕ) → Starts part next None → Answers D pattern next quantum (Err faults.Plan)
   unanswered None quantum s = cc
   unanswered (Some bytes) quantum s = refused bytes s
 
-pub start_within : (part : Part) (next : Option (List ℕ)) (start : Cursor) → Starts part next (Some start) → IsWithin part start
+pub start_within : (part : Seen) (next : Option (List ℕ)) (start : Cursor) → Starts part next (Some start) → IsWithin part start
 start_within part None start s = subst (IsWithin part) (sym (Some_same start cursors.Fresh s)) tt
 start_within part (Some bytes) start s = s.0

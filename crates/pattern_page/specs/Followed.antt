@@ -1,16 +1,18 @@
 -- Pages followed from none to none.
-use Rattle.std.specs.Prelude.{◌≡◌, ℕ, ◌+◌, ◌<◌, ◌≤◌, max, List, [], ◌∷◌, ◌++◌, length, flat_map, Option, Some, None, is_some, option_map, Bool}
+use Rattle.std.specs.Prelude.{◌≡◌, ℕ, ◌+◌, ◌<◌, ◌≤◌, max, List, [], ◌∷◌, ◌++◌, length, flat_map, Option, Some, None, is_some, option_map, Bool, Result, Ok, Err}
 use Rattle.term_core.specs.declared.term.Triple.{Triple}
 use Rattle.term_core.specs.declared.pattern.Pattern.{Pattern}
 use Rattle.term_core.specs.Mappings.{Name}
 use Rattle.plan_tree.specs.Trace.{Plan, steps}
 use Rattle.plan_tree.specs.Pages.{Page, IsNext, IsPage, IsRun, walked, rows_in, steps_in, next_length, longest_in}
-use Rattle.pattern_page.specs.declared.page.Part.{Part}
+use Rattle.pattern_page.specs.declared.page.Page as code_page
+use Rattle.pattern_page.specs.declared.page.PageFault.{PageFault}
+use Rattle.pattern_page.specs.declared.page.PageFault.TheVariants as faults
 use Rattle.pattern_page.specs.declared.follow.Counts.{Counts}
 use Rattle.pattern_page.specs.declared.follow.Walk.{Walk}
 use Rattle.pattern_page.specs.Part.{part_text, part_plan}
 use Rattle.pattern_page.specs.Results.{line}
-use Rattle.pattern_page.specs.PagesOf.{IsPart}
+use Rattle.pattern_page.specs.PagesOf.{page_of}
 
 -- the bytes from which a page goes on, none where it is the first
 abbrev pub next_in : Walk → Option (List ℕ)
@@ -20,10 +22,6 @@ next_in walk = option_map (λ v. v.items) walk.next
 abbrev pub Begins : List Triple → Pattern → ℕ → Option (List ℕ) → Type 0
 Begins D pattern n None = n ≡ 0
 Begins D pattern n (Some bytes) = IsNext D (part_plan pattern) (part_text pattern) n (Some bytes)
-
--- the next page begins after as many entries as there were steps
-abbrev pub IsKnown : Part → Walk → Type 0
-IsKnown part walk = (D : List Triple) (pattern : Pattern) → IsPart D pattern part → Begins D pattern walk.counts.steps (next_in walk)
 
 -- the counts with a page more
 pub record AreMore (old new : Counts) (page : Page) : Type 0 where
@@ -39,6 +37,20 @@ pub record IsPaged (D : List Triple) (pattern : Pattern) (quantum : ℕ) (names 
   pub lines_are : after ≡ before ++ flat_map (line names) page.rows
   pub next_is : next_in new ≡ page.next
   pub more_is : more ≡ is_some page.next
+
+-- the page of the place was given, or it was refused, but not by its bytes
+abbrev pub IsTurned : List Triple → Pattern → ℕ → ℕ → Result code_page.Page PageFault → Type 0
+IsTurned D pattern n quantum (Ok page) = IsPage D (part_plan pattern) (part_text pattern) n quantum (page_of page)
+IsTurned D pattern n quantum (Err faults.Plan) = ⊥
+IsTurned D pattern n quantum (Err (faults.Store fault)) = Unit {0}
+IsTurned D pattern n quantum (Err faults.Memory) = Unit {0}
+
+-- one page more was given, or it was refused, but not by its bytes
+abbrev pub IsGiven : List Triple → Pattern → ℕ → List Name → Walk → Walk → List ℕ → List ℕ → Result Bool PageFault → Type 0
+IsGiven D pattern quantum names old new before after (Ok more) = IsPaged D pattern quantum names old new before after more
+IsGiven D pattern quantum names old new before after (Err faults.Plan) = ⊥
+IsGiven D pattern quantum names old new before after (Err (faults.Store fault)) = Unit {0}
+IsGiven D pattern quantum names old new before after (Err faults.Memory) = Unit {0}
 
 -- the pages from after m entries to after n, the first of them page k of a run
 abbrev pub IsFront : List Triple → Plan → List ℕ → (ℕ → ℕ) → ℕ → ℕ → List Page → ℕ → Type 0
@@ -71,3 +83,10 @@ pub record IsFollowed (D : List Triple) (pattern : Pattern) (quanta : List ℕ) 
   pub pages : List Page
   pub run : IsRun D (part_plan pattern) (part_text pattern) (walked quanta) 0 0 pages
   pub are : AreOf names pages counts before after
+
+-- all pages were given, or one was refused, but not by its bytes
+abbrev pub AreFollowed : List Triple → Pattern → List ℕ → List Name → List ℕ → List ℕ → Result Counts PageFault → Type 0
+AreFollowed D pattern quanta names before after (Ok counts) = IsFollowed D pattern quanta names counts before after
+AreFollowed D pattern quanta names before after (Err faults.Plan) = ⊥
+AreFollowed D pattern quanta names before after (Err (faults.Store fault)) = Unit {0}
+AreFollowed D pattern quanta names before after (Err faults.Memory) = Unit {0}

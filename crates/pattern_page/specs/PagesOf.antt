@@ -1,8 +1,7 @@
 -- What a page needs, where its cursor stands, and what a page answers.
-use Rattle.std.specs.Prelude.{◌≡◌, ℕ, ◌+◌, ◌<◌, ◌≤◌, List, [], ◌∷◌, ◌++◌, length, map, min, take, drop, slice_get, Option, Some, None, option_map, Result, Ok, Err, Bool, true, false}
-use Rattle.std.specs.List.Sorted.{IsStrictlySortedBy}
+use Rattle.std.specs.Prelude.{◌≡◌, ℕ, ◌+◌, ◌-◌, ◌^◌, ◌<◌, ◌≤◌, List, [], ◌∷◌, ◌++◌, length, map, min, take, drop, slice_get, Option, Some, None, option_map, Result, Ok, Err, Bool, true, false}
 use Rattle.sha2.specs.Sha256.{sha256}
-use Rattle.term_core.specs.Ids.{id_cmp}
+use Rattle.term_core.specs.declared.term.Term.{Term}
 use Rattle.term_core.specs.declared.term.Triple.{Triple}
 use Rattle.term_core.specs.declared.pattern.IdTriple.{IdTriple}
 use Rattle.term_core.specs.declared.pattern.Pattern.{Pattern}
@@ -13,7 +12,6 @@ use Rattle.plan_tree.specs.States.{State, Stands}
 use Rattle.plan_tree.specs.Spelling.{data_id, state_bytes, plan_bytes}
 use Rattle.plan_tree.specs.OnePattern.{matches, solution_of, fresh_state, opened_state, closing_state}
 use Rattle.plan_tree.specs.Pages.{Page, IsPage}
-use Rattle.pattern_data.specs.declared.table.Table.{Table}
 use Rattle.pattern_page.specs.declared.page.Part.{Part}
 use Rattle.pattern_page.specs.declared.page.Page as code_page
 use Rattle.pattern_page.specs.declared.page.PageFault.{PageFault}
@@ -22,82 +20,131 @@ use Rattle.pattern_page.specs.declared.page.Cursor.{Cursor}
 use Rattle.pattern_page.specs.declared.page.Cursor.TheVariants as cursors
 use Rattle.pattern_page.specs.declared.page.Step.{Step}
 use Rattle.pattern_page.specs.declared.page.Stretch.{Stretch}
-use Rattle.pattern_data.specs.Table.{decode, AreBelow, IsTable, terms_in, ids_in}
-use Rattle.pattern_data.specs.Range.{keys_in, triples_in}
+use Rattle.triple_table.specs.Table.{decode, AreBelow, IsTable}
+use Rattle.triple_store.specs.Stores.{View, IsShown}
+use Rattle.triple_store.specs.Ranges.{triples_at}
 use Rattle.pattern_page.specs.Part.{part_text, part_plan}
-use Rattle.pattern_page.specs.StateReading.{at_state}
+use Rattle.pattern_page.specs.declared.state.State as code_state
+use Rattle.pattern_page.specs.StateReading.{at_state, state_of, state_at}
+use Rattle.sage_outside.specs.Causes.{Rose}
+use Rattle.sage_outside.specs.declared.fault.StoreFault.TheVariants as store_faults
 
--- the table of some data
-abbrev pub HasTriples : Table → Type 0
-HasTriples table = (D : List Triple) × IsTable D (terms_in table) (ids_in table)
+-- what a part is over a store: the terms of the data, the triples of its range in their order by the ranks of their
+-- terms, the pattern, and the two names
+pub record Seen : Type 0 where
+  pub terms : List Term
+  pub triples : List IdTriple
+  pub pattern : Pattern
+  pub data_name : List ℕ
+  pub text_name : List ℕ
 
--- what a page needs of the data and the pattern
-pub record IsPart (D : List Triple) (pattern : Pattern) (part : Part) : Type 0 where
-  pub same : part.pattern.now ≡ pattern
-  pub table_is : IsTable D (terms_in part.table.now) (ids_in part.table.now)
-  pub ordered : IsStrictlySortedBy id_cmp (keys_in part.range)
-  pub below : AreBelow (length (terms_in part.table.now)) (triples_in part.range)
-  pub listing : map (decode (terms_in part.table.now)) (triples_in part.range) ≡ matches D (pattern_of pattern)
+-- a part as it is seen over a store that shows these terms and triples
+abbrev pub seen : Part → List Term → List IdTriple → Seen
+seen part terms ids = record {
+  terms = terms;
+  triples = triples_at ids part.range;
+  pattern = part.pattern.now;
+  data_name = part.data_name;
+  text_name = part.text_name;
+}
+
+-- ranks fit into four bytes, and the triples of the range have the ranks of terms
+pub record IsSound (part : Seen) : Type 0 where
+  pub few : length part.terms ≤ 12582909
+  pub below : AreBelow (length part.terms) part.triples
+
+-- the store shows these terms and triples, and the part's range is of them
+pub record IsSeen (store : View) (part : Part) (terms : List Term) (ids : List IdTriple) : Type 0 where
+  pub shown : IsShown store terms ids
+  pub count : length (triples_at ids part.range) ≡ part.range.end - part.range.first
+  pub sound : IsSound (seen part terms ids)
+
+-- the part of a pattern over some data
+pub record IsOf (D : List Triple) (pattern : Pattern) (part : Seen) : Type 0 where
+  pub same : part.pattern ≡ pattern
+  pub ids : List IdTriple
+  pub table_is : IsTable D part.terms ids
+  pub sound : IsSound part
+  pub few : length part.triples < 2 ^ 32
+  pub listing : map (decode part.terms) part.triples ≡ matches D (pattern_of pattern)
   pub data_name : part.data_name ≡ data_id D
   pub text_name : part.text_name ≡ sha256 (part_text pattern)
 
--- the part of some data
-abbrev pub HasData : Part → Type 0
-HasData part = (D : List Triple) × IsPart D part.pattern.now part
+-- the part of a pattern over a store of some data
+pub record IsPart (D : List Triple) (pattern : Pattern) (store : View) (part : Part) : Type 0 where
+  pub terms : List Term
+  pub ids : List IdTriple
+  pub is_seen : IsSeen store part terms ids
+  pub counted : part.steps ≡ length (triples_at ids part.range) + 3
+  pub is_of : IsOf D pattern (seen part terms ids)
 
--- the triples of the range stand in order and have the numbers of terms, which fit into four bytes
-pub record IsSound (part : Part) : Type 0 where
-  pub few : length (terms_in part.table.now) ≤ 12582909
-  pub ordered : IsStrictlySortedBy id_cmp (keys_in part.range)
-  pub below : AreBelow (length (terms_in part.table.now)) (triples_in part.range)
+-- the store holds the data, whose name its header tells
+pub record IsStoreOf (D : List Triple) (store : View) : Type 0 where
+  pub terms : List Term
+  pub ids : List IdTriple
+  pub table_is : IsTable D terms ids
+  pub shown : IsShown store terms ids
+  pub data_name : store.header.data_id ≡ data_id D
+
+-- the cursor stands in the part's range
+abbrev pub IsAt : Part → Cursor → Type 0
+IsAt part cursors.Fresh = Unit {0}
+IsAt part cursors.Opened = Unit {0}
+IsAt part (cursors.After place) = place < part.range.end - part.range.first
+IsAt part cursors.Closing = Unit {0}
+IsAt part cursors.Done = Unit {0}
 
 -- the entry of a triple: its solution, or nothing where one name would get two values
-abbrev pub entry_at : Part → IdTriple → Option Row
-entry_at part ids = solution_of (pattern_of part.pattern.now) (decode (terms_in part.table.now) ids)
+abbrev pub entry_at : Seen → IdTriple → Option Row
+entry_at part ids = solution_of (pattern_of part.pattern) (decode (part.terms) ids)
 
 -- the entries of triples, and the two at the end
-abbrev pub rest_of : Part → List IdTriple → Entries
+abbrev pub rest_of : Seen → List IdTriple → Entries
 rest_of part ids = map (entry_at part) ids ++ None ∷ None ∷ []
 
 -- the entries that are still to come where the cursor stands
-abbrev pub left_at : Part → Cursor → Entries
-left_at part cursors.Fresh = None ∷ rest_of part (triples_in part.range)
-left_at part cursors.Opened = rest_of part (triples_in part.range)
-left_at part (cursors.After place) = rest_of part (drop (place + 1) (triples_in part.range))
+abbrev pub left_at : Seen → Cursor → Entries
+left_at part cursors.Fresh = None ∷ rest_of part (part.triples)
+left_at part cursors.Opened = rest_of part (part.triples)
+left_at part (cursors.After place) = rest_of part (drop (place + 1) (part.triples))
 left_at part cursors.Closing = None ∷ []
 left_at part cursors.Done = []
 
 -- the cursor stands in the range
-abbrev pub IsWithin : Part → Cursor → Type 0
+abbrev pub IsWithin : Seen → Cursor → Type 0
 IsWithin part cursors.Fresh = Unit {0}
 IsWithin part cursors.Opened = Unit {0}
-IsWithin part (cursors.After place) = place < length (triples_in part.range)
+IsWithin part (cursors.After place) = place < length (part.triples)
 IsWithin part cursors.Closing = Unit {0}
 IsWithin part cursors.Done = Unit {0}
 
 -- how many entries come before the cursor
-abbrev pub place_at : Part → Cursor → ℕ
+abbrev pub place_at : Seen → Cursor → ℕ
 place_at part cursors.Fresh = 0
 place_at part cursors.Opened = 1
 place_at part (cursors.After place) = place + 2
-place_at part cursors.Closing = length (triples_in part.range) + 2
-place_at part cursors.Done = length (triples_in part.range) + 3
+place_at part cursors.Closing = length (part.triples) + 2
+place_at part cursors.Done = length (part.triples) + 3
 
 -- the state where the cursor stands, none at the end
-abbrev pub cursor_state : Part → Cursor → Option State
+abbrev pub cursor_state : Seen → Cursor → Option State
 cursor_state part cursors.Fresh = Some fresh_state
 cursor_state part cursors.Opened = Some opened_state
-cursor_state part (cursors.After place) = option_map at_state (slice_get (triples_in part.range) place)
+cursor_state part (cursors.After place) = option_map at_state (slice_get (part.triples) place)
 cursor_state part cursors.Closing = Some closing_state
 cursor_state part cursors.Done = None
 
 -- the bytes of a state of the part's plan
-abbrev pub spelled : Part → State → List ℕ
+abbrev pub spelled : Seen → State → List ℕ
 spelled part state = 2 ∷ (part.data_name ++ (part.text_name ++ state_bytes state))
 
 -- the bytes of the cursor's state, none at the end
-abbrev pub saved_at : Part → Cursor → Option (List ℕ)
+abbrev pub saved_at : Seen → Cursor → Option (List ℕ)
 saved_at part cursor = option_map (spelled part) (cursor_state part cursor)
+
+-- the bytes of a state behind a part's names
+abbrev pub spelled_by : Part → State → List ℕ
+spelled_by part state = 2 ∷ (part.data_name ++ (part.text_name ++ state_bytes state))
 
 -- the bytes behind a front, or they do not begin with it
 abbrev pub IsBehind : List ℕ → List ℕ → Option (List ℕ) → Type 0
@@ -105,28 +152,42 @@ IsBehind front bytes (Some rest) = bytes ≡ front ++ rest
 IsBehind front bytes None = (rest : List ℕ) → bytes ≡ front ++ rest → ⊥
 
 -- the bytes behind the version and the part's names, or the bytes do not begin with them
-abbrev pub IsNamed : Part → List ℕ → Option (List ℕ) → Type 0
-IsNamed part bytes (Some rest) = bytes ≡ 2 ∷ (part.data_name ++ (part.text_name ++ rest))
-IsNamed part bytes None = (rest : List ℕ) → bytes ≡ 2 ∷ (part.data_name ++ (part.text_name ++ rest)) → ⊥
+abbrev pub IsNamed : (data_name text_name : List ℕ) → List ℕ → Option (List ℕ) → Type 0
+IsNamed data_name text_name bytes (Some rest) = bytes ≡ 2 ∷ (data_name ++ (text_name ++ rest))
+IsNamed data_name text_name bytes None = (rest : List ℕ) → bytes ≡ 2 ∷ (data_name ++ (text_name ++ rest)) → ⊥
+
+-- the state is read from its bytes again
+abbrev pub IsReadable : State → Type 0
+IsReadable state = state_at (state_bytes state) ≡ Some state
+
+-- the state with these bytes, or they are of none
+abbrev pub IsRead : Part → List ℕ → Option code_state.State → Type 0
+IsRead part bytes (Some state) = (spelled_by part (state_of state) ≡ bytes) × IsReadable (state_of state)
+IsRead part bytes None = (state : State) → IsReadable state → spelled_by part state ≡ bytes → ⊥
+
+-- a cursor with that state, or there is none
+abbrev pub IsPlaced : Seen → code_state.State → Option Cursor → Type 0
+IsPlaced part state (Some cursor) = IsWithin part cursor × (cursor_state part cursor ≡ Some (state_of state))
+IsPlaced part state None = (cursor : Cursor) → IsWithin part cursor → cursor_state part cursor ≡ Some (state_of state) → ⊥
 
 -- a cursor with these bytes, or there is none
-abbrev pub Loads : Part → List ℕ → Option Cursor → Type 0
+abbrev pub Loads : Seen → List ℕ → Option Cursor → Type 0
 Loads part bytes (Some cursor) = IsWithin part cursor × (saved_at part cursor ≡ Some bytes)
 Loads part bytes None = (cursor : Cursor) → IsWithin part cursor → saved_at part cursor ≡ Some bytes → ⊥
 
 -- the cursor at the beginning, or the one with the bytes
-abbrev pub Starts : Part → Option (List ℕ) → Option Cursor → Type 0
+abbrev pub Starts : Seen → Option (List ℕ) → Option Cursor → Type 0
 Starts part None found = found ≡ Some cursors.Fresh
 Starts part (Some bytes) found = Loads part bytes found
 
 -- one entry is given, or none is left
-abbrev pub Gives : Part → Cursor → Option Step → Type 0
+abbrev pub Gives : Seen → Cursor → Option Step → Type 0
 Gives part cursor None = left_at part cursor ≡ []
 Gives part cursor (Some step) = IsWithin part step.cursor × (left_at part cursor ≡ step.row ∷ left_at part step.cursor)
 
 -- the entry of the triple at a place of the range is given, or the first of the two at the end
-abbrev pub GivesAt : Part → ℕ → Step → Type 0
-GivesAt part place step = IsWithin part step.cursor × (rest_of part (drop place (triples_in part.range)) ≡ step.row ∷ left_at part step.cursor)
+abbrev pub GivesAt : Seen → ℕ → Step → Type 0
+GivesAt part place step = IsWithin part step.cursor × (rest_of part (drop place (part.triples)) ≡ step.row ∷ left_at part step.cursor)
 
 -- of entries so many steps were taken, these are their rows, and those entries are left
 pub record AreTaken (entries : Entries) (steps : ℕ) (rows : List Row) (left : Entries) : Type 0 where
@@ -135,13 +196,13 @@ pub record AreTaken (entries : Entries) (steps : ℕ) (rows : List Row) (left : 
   pub left_are : left ≡ drop steps entries
 
 -- from a cursor as many entries were taken as the quantum lets, up to the end
-pub record IsStretch (part : Part) (start : Cursor) (quantum : ℕ) (stretch : Stretch) : Type 0 where
+pub record IsStretch (part : Seen) (start : Cursor) (quantum : ℕ) (stretch : Stretch) : Type 0 where
   pub within : IsWithin part stretch.cursor
   pub taken : AreTaken (left_at part start) stretch.steps stretch.rows (left_at part stretch.cursor)
   pub steps_are : stretch.steps ≡ min quantum (length (left_at part start))
 
 -- the page of a stretch, with the bytes of its end
-pub record IsPageFrom (part : Part) (start : Cursor) (quantum : ℕ) (page : code_page.Page) : Type 0 where
+pub record IsPageFrom (part : Seen) (start : Cursor) (quantum : ℕ) (page : code_page.Page) : Type 0 where
   pub end : Cursor
   pub within : IsWithin part end
   pub taken : AreTaken (left_at part start) page.steps page.rows (left_at part end)
@@ -149,9 +210,24 @@ pub record IsPageFrom (part : Part) (start : Cursor) (quantum : ℕ) (page : cod
   pub next_is : option_map (λ v. v.items) page.next ≡ saved_at part end
 
 -- one step more was taken, or none was left
-abbrev pub IsMore : Part → Stretch → Stretch → Bool → Type 0
+abbrev pub IsMore : Seen → Stretch → Stretch → Bool → Type 0
 IsMore part old new true = (row : Option Row) × IsWithin part new.cursor × (left_at part old.cursor ≡ row ∷ left_at part new.cursor) × (new.rows ≡ old.rows ++ rows_of (row ∷ [])) × (new.steps ≡ old.steps + 1)
 IsMore part old new false = (left_at part old.cursor ≡ []) × (new ≡ old)
+
+-- Why a step is refused: for want of memory; by the blocks, only where their faults rose; or by a damaged block, never where
+-- the store shows what it holds.
+abbrev pub IsRefusal : PageFault → View → View → Type 0
+IsRefusal faults.Plan before now = ⊥
+IsRefusal faults.Memory before now = Unit {0}
+IsRefusal (faults.Store store_faults.Memory) before now = Unit {0}
+IsRefusal (faults.Store store_faults.Blocks) before now = Rose before.device.faults now.device.faults
+IsRefusal (faults.Store (store_faults.Damaged block)) before now = (terms : List Term) (ids : List IdTriple) → IsShown before terms ids → ⊥
+
+-- the same of a page, which its bytes may refuse too
+abbrev pub MayRefuse : PageFault → View → View → Type 0
+MayRefuse faults.Plan before now = Unit {0}
+MayRefuse faults.Memory before now = Unit {0}
+MayRefuse (faults.Store fault) before now = IsRefusal (faults.Store fault) before now
 
 -- a page, as the code holds it
 abbrev pub page_of : code_page.Page → Page
@@ -172,6 +248,7 @@ NoState D pattern bytes = (state : State) (n : ℕ) → Stands D (part_plan patt
 -- The page of so many steps from the beginning, or from where the bytes say. It is refused exactly where they say nothing.
 abbrev pub Answers : List Triple → Pattern → Option (List ℕ) → ℕ → Result code_page.Page PageFault → Type 0
 Answers D pattern next quantum (Err faults.Memory) = Unit {0}
+Answers D pattern next quantum (Err (faults.Store fault)) = Unit {0}
 Answers D pattern None quantum (Ok page) = IsPage D (part_plan pattern) (part_text pattern) 0 quantum (page_of page)
 Answers D pattern (Some bytes) quantum (Ok page) = Resumes D pattern bytes quantum (page_of page)
 Answers D pattern None quantum (Err faults.Plan) = ⊥

@@ -1,18 +1,22 @@
 //! All pages of a part, each from the bytes that the page before gave.
 
-ghost use Rattle.std.specs.Prelude.{◌≡◌, ◌≤◌, ◌<◌, ◌+◌, ◌++◌, List, flat_map, option_map, OnOk, IfOk};
+ghost use Rattle.std.specs.Prelude.{◌≡◌, ◌≤◌, ◌<◌, ◌+◌, ◌++◌, List, flat_map, option_map, OnOk, IfOk, IfErr};
 ghost use Rattle.term_core.specs.declared.term.Triple.{Triple};
 ghost use Rattle.term_core.specs.declared.pattern.Pattern.{Pattern as Patterns};
 ghost use Rattle.plan_tree.specs.Pages.{IsPage, AreQuanta, walked};
+ghost use Rattle.triple_store.specs.Stores.{IsKept};
+ghost use Rattle.triple_store.specs.Ranges.{IsWithin as IsInStore};
 ghost use Rattle.pattern_page.specs.Part.{part_plan, part_text};
 ghost use Rattle.pattern_page.specs.Results.{line};
-ghost use Rattle.pattern_page.specs.PagesOf.{IsPart, HasData, page_of};
-ghost use Rattle.pattern_page.specs.Followed.{IsKnown, AreMore, IsPaged, IsFollowed};
+ghost use Rattle.pattern_page.specs.PagesOf.{IsPart, IsRefusal, MayRefuse, page_of};
+ghost use Rattle.pattern_page.specs.Followed.{AreMore, Begins, IsTurned, IsGiven, AreFollowed, next_in};
 
 use crate::page::{Page, PageFault, Part};
 use crate::tsv::push_line;
+use sage_outside::Blocks;
 use std::alloc::Global;
 use term_core::{Memory, Row, Text};
+use triple_store::Store;
 
 /// What pages cost: how many they were, how many steps they took together, and how many bytes the
 /// longest plan had that went from a page to the next; 0 where there was one page.
@@ -39,18 +43,18 @@ fn push_lines(out: &mut Vec<u8>, names: &[Text], rows: &[Row]) -> Result<(), Mem
     Ok(())
 }
 
+/// The counts with a page more. Counts stand still at 2^64 - 1, which no run over a store reaches.
 fn add(counts: Counts, page: &Page) -> Counts
-    requires pages { counts.pages < 18446744073709551615 }
-    requires steps { counts.steps + page.now.steps < 18446744073709551616 }
-    ensures { AreMore counts result (page_of page.now) }
+    ensures { counts.pages < 18446744073709551615 → counts.steps + page.now.steps < 18446744073709551616
+        → AreMore counts result (page_of page.now) }
 {
     let length = match &page.next {
         None => 0,
         Some(bytes) => bytes.len() as u64,
     };
     Counts {
-        pages: counts.pages + 1,
-        steps: counts.steps + page.steps as u64,
+        pages: counts.pages.saturating_add(1),
+        steps: counts.steps.saturating_add(page.steps as u64),
         longest: counts.longest.max(length),
     }
 }
@@ -65,37 +69,43 @@ fn slice_of(next: &Option<Vec<u8>>) -> Option<&[u8]>
 }
 
 /// The page that comes next.
-fn turn(alloc: Global, part: &Part, quantum: u32, walk: &Walk) -> Result<Page, Memory>
-    requires sound { HasData part.now }
+fn turn<B: Blocks>(
+    alloc: Global,
+    store: &mut Store<B>,
+    part: &Part,
+    quantum: u32,
+    walk: &Walk,
+) -> Result<Page, PageFault>
+    requires range { IsInStore store.old part.now.range }
     requires some { 1 ≤ quantum }
-    requires known { IsKnown part.now walk.now }
-    ensures { (D : List Triple) (pattern : Patterns) → IsPart D pattern part.now
-        → IfOk result (λ page. IsPage D (part_plan pattern) (part_text pattern) walk.now.counts.steps quantum (page_of page)) }
+    ensures kept { IsKept store.old store.new }
+    ensures refused { IfErr result (λ e. MayRefuse e store.old store.new) }
+    ensures page { (D : List Triple) (pattern : Patterns) → IsPart D pattern store.old part.now
+        → Begins D pattern walk.now.counts.steps (next_in walk.now)
+        → IsTurned D pattern walk.now.counts.steps quantum result }
 {
-    match part.page(alloc, slice_of(&walk.next), quantum) {
-        Ok(page) => Ok(page),
-        Err(PageFault::Memory) => Err(Memory),
-        Err(PageFault::Plan) => unreachable!(),
-    }
+    part.page(alloc, store, slice_of(&walk.next), quantum)
 }
 
 /// Gives the next page: its lines are written and it is counted. Answers whether more are to come.
-fn give(
+fn give<B: Blocks>(
     alloc: Global,
+    store: &mut Store<B>,
     part: &Part,
     names: &[Text],
     quantum: u32,
     walk: &mut Walk,
     out: &mut Vec<u8>,
-) -> Result<bool, Memory>
-    requires sound { HasData part.now }
+) -> Result<bool, PageFault>
+    requires range { IsInStore store.old part.now.range }
     requires some { 1 ≤ quantum }
-    requires known { IsKnown part.now walk.old }
-    requires few { walk.old.counts.pages ≤ walk.old.counts.steps }
-    ensures { (D : List Triple) (pattern : Patterns) → IsPart D pattern part.now
-        → IfOk result (λ more. IsPaged D pattern quantum names.now walk.old walk.new out.old.items out.new.items more) }
+    ensures kept { IsKept store.old store.new }
+    ensures refused { IfErr result (λ e. MayRefuse e store.old store.new) }
+    ensures page { (D : List Triple) (pattern : Patterns) → IsPart D pattern store.old part.now
+        → Begins D pattern walk.old.counts.steps (next_in walk.old) → walk.old.counts.pages ≤ walk.old.counts.steps
+        → IsGiven D pattern quantum names.now walk.old walk.new out.old.items out.new.items result }
 {
-    let page = turn(alloc, part, quantum, walk)?;
+    let page = turn(alloc, store, part, quantum, walk)?;
     push_lines(out, names, page.rows.as_slice())?;
     walk.counts = add(walk.counts, &page);
     walk.next = page.next;
@@ -115,17 +125,22 @@ fn quantum_of(quanta: &[u32], page: u64) -> u32
 /// round, and appends a line to `out` for each row as it comes, with the terms of `names`. Each page but
 /// the first goes on from the bytes that the page before gave, and from nothing else. After an `Err` a
 /// part of the lines may stand at the end of `out`.
-pub fn follow_pages(
+///
+/// Over a store of some data `Plan` never comes.
+pub fn follow_pages<B: Blocks>(
     alloc: Global,
+    store: &mut Store<B>,
     part: &Part,
     names: &[Text],
     quanta: &[u32],
     out: &mut Vec<u8>,
-) -> Result<Counts, Memory>
-    requires sound { HasData part.now }
+) -> Result<Counts, PageFault>
+    requires range { IsInStore store.old part.now.range }
     requires some { AreQuanta quanta.now }
-    ensures { (D : List Triple) (pattern : Patterns) → IsPart D pattern part.now
-        → IfOk result (λ counts. IsFollowed D pattern quanta.now names.now counts out.old.items out.new.items) }
+    ensures kept { IsKept store.old store.new }
+    ensures refused { IfErr result (λ e. MayRefuse e store.old store.new) }
+    ensures pages { (D : List Triple) (pattern : Patterns) → IsPart D pattern store.old part.now
+        → AreFollowed D pattern quanta.now names.now out.old.items out.new.items result }
 {
     let counts = Counts {
         pages: 0,
@@ -135,7 +150,7 @@ pub fn follow_pages(
     let mut walk = Walk { counts, next: None };
     'pages: for page in 0..part.steps() {
         let quantum = quantum_of(quanta, page);
-        if !give(alloc, part, names, quantum, &mut walk, out)? {
+        if !give(alloc, store, part, names, quantum, &mut walk, out)? {
             break;
         }
     }

@@ -1,34 +1,40 @@
 //! Pages of a part: a page begins where the bytes say that the page before gave, and takes at most a
 //! quantum of steps.
 
-ghost use Rattle.std.specs.Prelude.{◌≡◌, ◌≤◌, ◌<◌, ◌+◌, ◌++◌, length, [], ◌∷◌, List, option_map, OnOk, IfOk};
+ghost use Rattle.std.specs.Prelude.{◌≡◌, ◌≤◌, ◌<◌, ◌+◌, ◌-◌, ◌++◌, ℕ, length, [], ◌∷◌, List, option_map, Err, IfSome, OnOk, IfOk, IfErr};
 ghost use Rattle.sha2.specs.Sha256.{sha256};
+ghost use Rattle.term_core.specs.declared.term.Term.{Term as Terms};
 ghost use Rattle.term_core.specs.declared.term.Triple.{Triple};
+ghost use Rattle.term_core.specs.declared.pattern.IdTriple.{IdTriple as Ids};
 ghost use Rattle.term_core.specs.Mappings.{value};
+ghost use Rattle.sage_outside.specs.Causes.{Rose};
 ghost use Rattle.sparql_tree.specs.Bgp.{label_name, position_of};
 ghost use Rattle.plan_tree.specs.Trace.{put as put_name, bind_at, rows_of, steps};
-ghost use Rattle.pattern_data.specs.Table.{IsTable, IsBelow, terms_in, ids_in};
+ghost use Rattle.triple_table.specs.Table.{IsBelow, term_at};
+ghost use Rattle.triple_store.specs.Stores.{View, IsKept, IsShown};
+ghost use Rattle.triple_store.specs.Ranges.{IsWithin as IsInStore};
 ghost use Rattle.pattern_page.specs.Part.{place_text, part_text, part_plan};
 ghost use Rattle.pattern_page.specs.StateReading.{state_of};
-ghost use Rattle.pattern_page.specs.PagesOf.{IsPart, entry_at, IsWithin, IsSound, HasData, HasTriples, GivesAt, IsMore, cursor_state, saved_at, IsBehind, IsNamed, Loads, Starts, Gives, IsStretch, IsPageFrom, Answers};
+ghost use Rattle.pattern_page.specs.PagesOf.{IsPart, IsSeen, IsStoreOf, IsAt, seen, entry_at, GivesAt, IsMore, cursor_state, saved_at, spelled_by, IsBehind, IsNamed, IsRead, IsPlaced, IsRefusal, MayRefuse, Loads, Starts, Gives, IsStretch, IsPageFrom, Answers};
 
 use crate::state::{State, parse_state, push_state};
 use nt_text::push_term;
-use pattern_data::{Range, Table, data_id, range_of};
+use sage_outside::{Blocks, StoreFault};
 use sha2::{Digest, Sha256};
 use std::alloc::Global;
 use term_core::{IdTriple, Items, Memory, Pattern, Place, Row, Term, Text, TextFault};
+use triple_store::{Range, Store};
 
 /// The first byte of a suspended plan.
 const VERSION: u8 = 2;
 
-/// What every page of a part needs: the data, the pattern with its triples, and the two names that
-/// the bytes of its plans begin with.
+/// What every page of a part needs beside the store: the pattern, the places of its triples, and the
+/// two names that the bytes of its plans begin with.
 #[derive(Drop)]
-pub struct Part<'t, 'd, 'p> {
-    table: &'t Table<'d>,
+pub struct Part<'p> {
     pattern: &'p Pattern,
     range: Range,
+    steps: u64,
     data_name: [u8; 32],
     text_name: [u8; 32],
 }
@@ -47,8 +53,32 @@ pub struct Page {
 pub enum PageFault {
     /// The bytes are none of a state of the part's plan over the data.
     Plan,
+    /// The store gave no answer.
+    Store(StoreFault),
     /// Memory ran out.
     Memory,
+}
+
+impl From<StoreFault> for PageFault {
+    ghost use Rattle.std.specs.Prelude.{◌≡◌};
+    ghost use Rattle.pattern_page.specs.declared.page.PageFault.TheVariants as faults;
+
+    ghost from_gives = { λ x y. y ≡ faults.Store x };
+
+    fn from(fault: StoreFault) -> PageFault {
+        PageFault::Store(fault)
+    }
+}
+
+impl From<Memory> for PageFault {
+    ghost use Rattle.std.specs.Prelude.{◌≡◌};
+    ghost use Rattle.pattern_page.specs.declared.page.PageFault.TheVariants as faults;
+
+    ghost from_gives = { λ x y. y ≡ faults.Memory };
+
+    fn from(_: Memory) -> PageFault {
+        PageFault::Memory
+    }
 }
 
 /// Where a page stands in the part's plan.
@@ -59,7 +89,7 @@ enum Cursor {
     /// The empty row was taken.
     Opened,
     /// The entry of the triple at this place of the range was the last.
-    After { place: usize },
+    After { place: u32 },
     /// All triples were given, and the end of the table was not.
     Closing,
     /// All was given.
@@ -154,15 +184,44 @@ fn put(alloc: Global, mut row: Row, name: Text, term: &Term) -> Result<Option<Ro
     }
 }
 
-/// Binds the name at a place of the pattern, if it has one.
-fn bind(alloc: Global, place: &Place, term: &Term, row: Option<Row>) -> Result<Option<Row>, Memory>
-    ensures { IfOk result (λ r. r ≡ bind_at (position_of place.now) term.now row) }
+/// Binds the name to the term with that rank, or gives nothing where it has another value.
+fn bind_name<B: Blocks>(
+    alloc: Global,
+    store: &mut Store<B>,
+    name: Text,
+    id: u32,
+    row: Row,
+) -> Result<Option<Row>, PageFault>
+    requires { id < store.old.header.terms }
+    ensures kept { IsKept store.old store.new }
+    ensures refused { IfErr result (λ e. IsRefusal e store.old store.new) }
+    ensures found { (terms : List Terms) (ids : List Ids) → IsShown store.old terms ids
+        → IfOk result (λ r. r ≡ put_name row name (term_at terms id) (value row name)) }
+{
+    let term = store.term(alloc, id)?;
+    Ok(put(alloc, row, name, &term)?)
+}
+
+/// Binds the name at a place of the pattern, if it has one, to the term with that rank. The term is
+/// read only where it is bound.
+fn bind<B: Blocks>(
+    alloc: Global,
+    store: &mut Store<B>,
+    place: &Place,
+    id: u32,
+    row: Option<Row>,
+) -> Result<Option<Row>, PageFault>
+    requires { id < store.old.header.terms }
+    ensures kept { IsKept store.old store.new }
+    ensures refused { IfErr result (λ e. IsRefusal e store.old store.new) }
+    ensures found { (terms : List Terms) (ids : List Ids) → IsShown store.old terms ids
+        → IfOk result (λ r. r ≡ bind_at (position_of place.now) (term_at terms id) row) }
 {
     match row {
         None => Ok(None),
         Some(row) => match place {
-            Place::Var(name) => put(alloc, row, name.copy(alloc)?, term),
-            Place::Blank(label) => put(alloc, row, name_of_label(alloc, label)?, term),
+            Place::Var(name) => bind_name(alloc, store, name.copy(alloc)?, id, row),
+            Place::Blank(label) => bind_name(alloc, store, name_of_label(alloc, label)?, id, row),
             Place::Term(_) => Ok(Some(row)),
         },
     }
@@ -179,6 +238,14 @@ fn strip<'b>(bytes: &'b [u8], front: &[u8]) -> Option<&'b [u8]>
     if head == front { Some(rest) } else { None }
 }
 
+/// The place behind one of so many.
+fn next_place(place: u32, count: u32) -> u32
+    requires { place < count }
+    ensures { result ≡ place + 1 }
+{
+    place + 1
+}
+
 /// Adds the row of an entry, if it has one.
 fn push_row(rows: &mut Items<Row>, row: Option<Row>) -> Result<(), Memory>
     ensures { OnOk result (rows.new ≡ rows.old ++ rows_of (row ∷ [])) }
@@ -189,25 +256,27 @@ fn push_row(rows: &mut Items<Row>, row: Option<Row>) -> Result<(), Memory>
     }
 }
 
-impl<'t, 'd, 'p> Part<'t, 'd, 'p> {
-    /// The part of a pattern over the data. The names and the range are found here, once for all
+impl<'p> Part<'p> {
+    /// The part of a pattern over a store. The names and the places are found here, once for all
     /// pages.
-    pub fn new(
+    pub fn new<B: Blocks>(
         alloc: Global,
-        table: &'t Table<'d>,
+        store: &mut Store<B>,
         pattern: &'p Pattern,
-    ) -> Result<Part<'t, 'd, 'p>, Memory>
-        requires { HasTriples table.now }
-        ensures sound { IfOk result (λ part. HasData part) }
-        ensures part { (D : List Triple) → IsTable D (terms_in table.now) (ids_in table.now) → IfOk result (λ part. IsPart D pattern.now part) }
+    ) -> Result<Part<'p>, PageFault>
+        ensures kept { IsKept store.old store.new }
+        ensures refused { IfErr result (λ e. IsRefusal e store.old store.new) }
+        ensures within { IfOk result (λ part. IsInStore store.old part.range) }
+        ensures part { (D : List Triple) → IsStoreOf D store.old → IfOk result (λ part. IsPart D pattern.now store.new part) }
     {
-        let range = range_of(alloc, table, pattern)?;
-        let data_name = data_id(alloc, table)?;
+        let range = store.range_of(alloc, pattern)?;
+        let steps = range.len() as u64 + 3;
+        let data_name = *store.data_id();
         let text_name = text_id(alloc, pattern)?;
         Ok(Part {
-            table,
             pattern,
             range,
+            steps,
             data_name,
             text_name,
         })
@@ -215,34 +284,47 @@ impl<'t, 'd, 'p> Part<'t, 'd, 'p> {
 
     /// How many steps the part's plan takes: one before its triples, one a triple, and two at the end.
     pub fn steps(&self) -> u64
-        ensures { (D : List Triple) (pattern : Pattern) → IsPart D pattern self.now → result ≡ steps D (part_plan pattern) }
+        ensures { (D : List Triple) (pattern : Pattern) (store : View) → IsPart D pattern store self.now → result ≡ steps D (part_plan pattern) }
     {
-        self.range.len() as u64 + 3
+        self.steps
     }
 
     /// The solution that a triple makes, or nothing where a name of the pattern would get two values.
-    fn solve(&self, alloc: Global, triple: IdTriple) -> Result<Option<Row>, Memory>
-        requires { IsBelow (length (terms_in self.now.table.now)) triple }
-        ensures { IfOk result (λ row. row ≡ entry_at self.now triple) }
+    fn solve<B: Blocks>(
+        &self,
+        alloc: Global,
+        store: &mut Store<B>,
+        triple: IdTriple,
+    ) -> Result<Option<Row>, PageFault>
+        requires { IsBelow store.old.header.terms triple }
+        ensures kept { IsKept store.old store.new }
+        ensures refused { IfErr result (λ e. IsRefusal e store.old store.new) }
+        ensures found { (terms : List Terms) (ids : List Ids) → IsSeen store.old self.now terms ids
+            → IfOk result (λ row. row ≡ entry_at (seen self.now terms ids) triple) }
     {
         let row = Some(Row::empty(alloc));
-        let row = bind(alloc, &self.pattern.subject, self.table.term(triple.s), row)?;
-        let row = bind(
-            alloc,
-            &self.pattern.predicate,
-            self.table.term(triple.p),
-            row,
-        )?;
-        bind(alloc, &self.pattern.object, self.table.term(triple.o), row)
+        let row = bind(alloc, store, &self.pattern.subject, triple.s, row)?;
+        let row = bind(alloc, store, &self.pattern.predicate, triple.p, row)?;
+        bind(alloc, store, &self.pattern.object, triple.o, row)
     }
 
     /// The step of the triple at a place of the range, or past them.
-    fn step_to(&self, alloc: Global, place: usize) -> Result<Step, Memory>
-        requires { IsSound self.now }
-        ensures { IfOk result (λ step. GivesAt self.now place step) }
+    fn step_to<B: Blocks>(
+        &self,
+        alloc: Global,
+        store: &mut Store<B>,
+        place: u32,
+    ) -> Result<Step, PageFault>
+        requires { IsInStore store.old self.now.range }
+        ensures kept { IsKept store.old store.new }
+        ensures refused { IfErr result (λ e. IsRefusal e store.old store.new) }
+        ensures within { IfOk result (λ step. IsAt self.now step.cursor) }
+        ensures found { (terms : List Terms) (ids : List Ids) → IsSeen store.old self.now terms ids
+            → IfOk result (GivesAt (seen self.now terms ids) place) }
     {
         if place < self.range.len() {
-            let row = self.solve(alloc, self.range.triple(place))?;
+            let triple = store.triple(&self.range, place)?;
+            let row = self.solve(alloc, store, triple)?;
             Ok(Step {
                 row,
                 cursor: Cursor::After { place },
@@ -256,18 +338,30 @@ impl<'t, 'd, 'p> Part<'t, 'd, 'p> {
     }
 
     /// The next step from a cursor; none at the end.
-    fn step(&self, alloc: Global, cursor: Cursor) -> Result<Option<Step>, Memory>
-        requires sound { IsSound self.now }
-        requires within { IsWithin self.now cursor }
-        ensures { IfOk result (λ step. Gives self.now cursor step) }
+    fn step<B: Blocks>(
+        &self,
+        alloc: Global,
+        store: &mut Store<B>,
+        cursor: Cursor,
+    ) -> Result<Option<Step>, PageFault>
+        requires range { IsInStore store.old self.now.range }
+        requires within { IsAt self.now cursor }
+        ensures kept { IsKept store.old store.new }
+        ensures refused { IfErr result (λ e. IsRefusal e store.old store.new) }
+        ensures within { IfOk result (λ step. IfSome step (λ x. IsAt self.now x.cursor)) }
+        ensures found { (terms : List Terms) (ids : List Ids) → IsSeen store.old self.now terms ids
+            → IfOk result (Gives (seen self.now terms ids) cursor) }
     {
         match cursor {
             Cursor::Fresh => Ok(Some(Step {
                 row: None,
                 cursor: Cursor::Opened,
             })),
-            Cursor::Opened => Ok(Some(self.step_to(alloc, 0)?)),
-            Cursor::After { place } => Ok(Some(self.step_to(alloc, place + 1)?)),
+            Cursor::Opened => Ok(Some(self.step_to(alloc, store, 0)?)),
+            Cursor::After { place } => {
+                let next = next_place(place, self.range.len());
+                Ok(Some(self.step_to(alloc, store, next)?))
+            }
             Cursor::Closing => Ok(Some(Step {
                 row: None,
                 cursor: Cursor::Done,
@@ -277,13 +371,23 @@ impl<'t, 'd, 'p> Part<'t, 'd, 'p> {
     }
 
     /// Takes one step more; false where none is left.
-    fn extend(&self, alloc: Global, stretch: &mut Stretch) -> Result<bool, Memory>
-        requires sound { IsSound self.now }
-        requires within { IsWithin self.now stretch.old.cursor }
+    fn extend<B: Blocks>(
+        &self,
+        alloc: Global,
+        store: &mut Store<B>,
+        stretch: &mut Stretch,
+    ) -> Result<bool, PageFault>
+        requires range { IsInStore store.old self.now.range }
+        requires within { IsAt self.now stretch.old.cursor }
         requires room { stretch.old.steps < 4294967295 }
-        ensures { IfOk result (λ more. IsMore self.now stretch.old stretch.new more) }
+        ensures kept { IsKept store.old store.new }
+        ensures refused { IfErr result (λ e. IsRefusal e store.old store.new) }
+        ensures within { OnOk result (IsAt self.now stretch.new.cursor) }
+        ensures counted { OnOk result (stretch.new.steps ≤ stretch.old.steps + 1) }
+        ensures found { (terms : List Terms) (ids : List Ids) → IsSeen store.old self.now terms ids
+            → IfOk result (IsMore (seen self.now terms ids) stretch.old stretch.new) }
     {
-        match self.step(alloc, stretch.cursor)? {
+        match self.step(alloc, store, stretch.cursor)? {
             None => Ok(false),
             Some(step) => {
                 push_row(&mut stretch.rows, step.row)?;
@@ -295,10 +399,20 @@ impl<'t, 'd, 'p> Part<'t, 'd, 'p> {
     }
 
     /// Takes steps from a cursor, as many as the quantum lets, up to the end.
-    fn run(&self, alloc: Global, start: Cursor, quantum: u32) -> Result<Stretch, Memory>
-        requires sound { IsSound self.now }
-        requires within { IsWithin self.now start }
-        ensures { IfOk result (λ stretch. IsStretch self.now start quantum stretch) }
+    fn run<B: Blocks>(
+        &self,
+        alloc: Global,
+        store: &mut Store<B>,
+        start: Cursor,
+        quantum: u32,
+    ) -> Result<Stretch, PageFault>
+        requires range { IsInStore store.old self.now.range }
+        requires within { IsAt self.now start }
+        ensures kept { IsKept store.old store.new }
+        ensures refused { IfErr result (λ e. IsRefusal e store.old store.new) }
+        ensures within { IfOk result (λ stretch. IsAt self.now stretch.cursor) }
+        ensures found { (terms : List Terms) (ids : List Ids) → IsSeen store.old self.now terms ids
+            → IfOk result (IsStretch (seen self.now terms ids) start quantum) }
     {
         let mut stretch = Stretch {
             rows: Items::new(alloc),
@@ -306,7 +420,7 @@ impl<'t, 'd, 'p> Part<'t, 'd, 'p> {
             cursor: start,
         };
         'steps: for _ in 0..quantum {
-            if !self.extend(alloc, &mut stretch)? {
+            if !self.extend(alloc, store, &mut stretch)? {
                 break;
             }
         }
@@ -314,25 +428,32 @@ impl<'t, 'd, 'p> Part<'t, 'd, 'p> {
     }
 
     /// The state where a cursor stands; none at the end.
-    fn state(&self, cursor: Cursor) -> Option<State>
-        requires { IsWithin self.now cursor }
-        ensures { option_map state_of result ≡ cursor_state self.now cursor }
+    fn state<B: Blocks>(
+        &self,
+        store: &mut Store<B>,
+        cursor: Cursor,
+    ) -> Result<Option<State>, StoreFault>
+        requires range { IsInStore store.old self.now.range }
+        requires within { IsAt self.now cursor }
+        ensures kept { IsKept store.old store.new }
+        ensures refused { IfErr result (λ e. IsRefusal (PageFault.Store e) store.old store.new) }
+        ensures found { (terms : List Terms) (ids : List Ids) → IsSeen store.old self.now terms ids
+            → IfOk result (λ state. option_map state_of state ≡ cursor_state (seen self.now terms ids) cursor) }
     {
         match cursor {
-            Cursor::Fresh => Some(State::Fresh),
-            Cursor::Opened => Some(State::Opened),
-            Cursor::After { place } => Some(State::At(self.range.triple(place))),
-            Cursor::Closing => Some(State::Closing),
-            Cursor::Done => None,
+            Cursor::Fresh => Ok(Some(State::Fresh)),
+            Cursor::Opened => Ok(Some(State::Opened)),
+            Cursor::After { place } => Ok(Some(State::At(store.triple(&self.range, place)?))),
+            Cursor::Closing => Ok(Some(State::Closing)),
+            Cursor::Done => Ok(None),
         }
     }
 
-    /// The bytes from which a page goes on where a cursor stands; none at the end.
-    fn save(&self, alloc: Global, cursor: Cursor) -> Result<Option<Vec<u8>>, Memory>
-        requires { IsWithin self.now cursor }
-        ensures { IfOk result (λ next. option_map (λ v. v.items) next ≡ saved_at self.now cursor) }
+    /// The bytes of a state, behind the version and the two names; none where there is no state.
+    fn spell(&self, alloc: Global, state: Option<State>) -> Result<Option<Vec<u8>>, Memory>
+        ensures { IfOk result (λ next. option_map (λ v. v.items) next ≡ option_map (spelled_by self.now) (option_map state_of state)) }
     {
-        match self.state(cursor) {
+        match state {
             None => Ok(None),
             Some(state) => {
                 let mut out = Vec::from_slice(alloc, &[VERSION])?;
@@ -344,51 +465,120 @@ impl<'t, 'd, 'p> Part<'t, 'd, 'p> {
         }
     }
 
+    /// The bytes from which a page goes on where a cursor stands; none at the end.
+    fn save<B: Blocks>(
+        &self,
+        alloc: Global,
+        store: &mut Store<B>,
+        cursor: Cursor,
+    ) -> Result<Option<Vec<u8>>, PageFault>
+        requires range { IsInStore store.old self.now.range }
+        requires within { IsAt self.now cursor }
+        ensures kept { IsKept store.old store.new }
+        ensures refused { IfErr result (λ e. IsRefusal e store.old store.new) }
+        ensures found { (terms : List Terms) (ids : List Ids) → IsSeen store.old self.now terms ids
+            → IfOk result (λ next. option_map (λ v. v.items) next ≡ saved_at (seen self.now terms ids) cursor) }
+    {
+        let state = self.state(store, cursor)?;
+        Ok(self.spell(alloc, state)?)
+    }
+
     /// The bytes of the state, behind the version and the two names, where these are the part's.
     fn strip_names<'b>(&self, bytes: &'b [u8]) -> Option<&'b [u8]>
-        ensures { IsNamed self.now bytes.now (option_map (λ b. b.now) result) }
+        ensures { IsNamed self.now.data_name self.now.text_name bytes.now (option_map (λ b. b.now) result) }
     {
         let rest = strip(bytes, &[VERSION])?;
         let rest = strip(rest, &self.data_name)?;
         strip(rest, &self.text_name)
     }
 
-    /// The cursor that stands where the bytes say; none where they are of no state of the plan. A
-    /// triple is looked up in the range, and nothing before it is given again.
-    fn load(&self, bytes: &[u8]) -> Option<Cursor>
-        requires { IsSound self.now }
-        ensures { Loads self.now bytes.now result }
+    /// The state that the bytes of a suspended plan spell; none where they are of no state.
+    fn read(&self, bytes: &[u8]) -> Option<State>
+        ensures { IsRead self.now bytes.now result }
     {
-        match parse_state(self.strip_names(bytes)?)? {
-            State::Fresh => Some(Cursor::Fresh),
-            State::Opened => Some(Cursor::Opened),
-            State::At(triple) => {
-                let place = self.range.place_of(triple)?;
-                Some(Cursor::After { place })
-            }
-            State::Closing => Some(Cursor::Closing),
+        parse_state(self.strip_names(bytes)?)
+    }
+
+    /// The cursor of a state; none where its triple is not of the range. The triple is looked up,
+    /// and nothing before it is given again.
+    fn place<B: Blocks>(
+        &self,
+        store: &mut Store<B>,
+        state: State,
+    ) -> Result<Option<Cursor>, StoreFault>
+        requires range { IsInStore store.old self.now.range }
+        ensures kept { IsKept store.old store.new }
+        ensures refused { IfErr result (λ e. IsRefusal (PageFault.Store e) store.old store.new) }
+        ensures within { IfOk result (λ cursor. IfSome cursor (IsAt self.now)) }
+        ensures found { (terms : List Terms) (ids : List Ids) → IsSeen store.old self.now terms ids
+            → IfOk result (IsPlaced (seen self.now terms ids) state) }
+    {
+        match state {
+            State::Fresh => Ok(Some(Cursor::Fresh)),
+            State::Opened => Ok(Some(Cursor::Opened)),
+            State::At(triple) => match store.place_of(&self.range, &triple)? {
+                None => Ok(None),
+                Some(place) => Ok(Some(Cursor::After { place })),
+            },
+            State::Closing => Ok(Some(Cursor::Closing)),
+        }
+    }
+
+    /// The cursor that stands where the bytes say; none where they are of no state of the plan.
+    fn load<B: Blocks>(
+        &self,
+        store: &mut Store<B>,
+        bytes: &[u8],
+    ) -> Result<Option<Cursor>, StoreFault>
+        requires range { IsInStore store.old self.now.range }
+        ensures kept { IsKept store.old store.new }
+        ensures refused { IfErr result (λ e. IsRefusal (PageFault.Store e) store.old store.new) }
+        ensures within { IfOk result (λ cursor. IfSome cursor (IsAt self.now)) }
+        ensures found { (terms : List Terms) (ids : List Ids) → IsSeen store.old self.now terms ids
+            → IfOk result (Loads (seen self.now terms ids) bytes.now) }
+    {
+        match self.read(bytes) {
+            None => Ok(None),
+            Some(state) => self.place(store, state),
         }
     }
 
     /// The cursor where a page begins.
-    fn start(&self, next: Option<&[u8]>) -> Option<Cursor>
-        requires { IsSound self.now }
-        ensures { Starts self.now (option_map (λ b. b.now) next.entry) result }
+    fn start<B: Blocks>(
+        &self,
+        store: &mut Store<B>,
+        next: Option<&[u8]>,
+    ) -> Result<Option<Cursor>, StoreFault>
+        requires range { IsInStore store.old self.now.range }
+        ensures kept { IsKept store.old store.new }
+        ensures refused { IfErr result (λ e. IsRefusal (PageFault.Store e) store.old store.new) }
+        ensures within { IfOk result (λ cursor. IfSome cursor (IsAt self.now)) }
+        ensures found { (terms : List Terms) (ids : List Ids) → IsSeen store.old self.now terms ids
+            → IfOk result (Starts (seen self.now terms ids) (option_map (λ b. b.now) next.entry)) }
     {
         match next {
-            None => Some(Cursor::Fresh),
-            Some(bytes) => self.load(bytes),
+            None => Ok(Some(Cursor::Fresh)),
+            Some(bytes) => self.load(store, bytes),
         }
     }
 
     /// The page of at most so many steps from a cursor.
-    fn page_from(&self, alloc: Global, start: Cursor, quantum: u32) -> Result<Page, Memory>
-        requires sound { IsSound self.now }
-        requires within { IsWithin self.now start }
-        ensures { IfOk result (λ page. IsPageFrom self.now start quantum page) }
+    fn page_from<B: Blocks>(
+        &self,
+        alloc: Global,
+        store: &mut Store<B>,
+        start: Cursor,
+        quantum: u32,
+    ) -> Result<Page, PageFault>
+        requires range { IsInStore store.old self.now.range }
+        requires within { IsAt self.now start }
+        ensures kept { IsKept store.old store.new }
+        ensures refused { IfErr result (λ e. IsRefusal e store.old store.new) }
+        ensures found { (terms : List Terms) (ids : List Ids) → IsSeen store.old self.now terms ids
+            → IfOk result (IsPageFrom (seen self.now terms ids) start quantum) }
     {
-        let stretch = self.run(alloc, start, quantum)?;
-        let next = self.save(alloc, stretch.cursor)?;
+        let stretch = self.run(alloc, store, start, quantum)?;
+        let next = self.save(alloc, store, stretch.cursor)?;
         Ok(Page {
             rows: stretch.rows,
             steps: stretch.steps,
@@ -399,20 +589,25 @@ impl<'t, 'd, 'p> Part<'t, 'd, 'p> {
     /// The page of at most `quantum` steps from the beginning, or from where the bytes say that the
     /// page before gave; it takes fewer steps only at the end of the plan.
     ///
-    /// `Plan` comes exactly where the bytes are those of no state of the plan: bytes that no page gave
-    /// are taken too, where a page could have given them.
-    pub fn page(&self, alloc: Global, next: Option<&[u8]>, quantum: u32) -> Result<Page, PageFault>
-        requires sound { HasData self.now }
+    /// Over a store of some data `Plan` comes exactly where the bytes are those of no state of the plan:
+    /// bytes that no page gave are taken too, where a page could have given them.
+    pub fn page<B: Blocks>(
+        &self,
+        alloc: Global,
+        store: &mut Store<B>,
+        next: Option<&[u8]>,
+        quantum: u32,
+    ) -> Result<Page, PageFault>
+        requires range { IsInStore store.old self.now.range }
         requires some { 1 ≤ quantum }
-        ensures { (D : List Triple) (pattern : Pattern) → IsPart D pattern self.now
+        ensures kept { IsKept store.old store.new }
+        ensures refused { IfErr result (λ e. MayRefuse e store.old store.new) }
+        ensures page { (D : List Triple) (pattern : Pattern) → IsPart D pattern store.old self.now
             → Answers D pattern (option_map (λ b. b.now) next.entry) quantum result }
     {
-        match self.start(next) {
+        match self.start(store, next)? {
             None => Err(PageFault::Plan),
-            Some(cursor) => match self.page_from(alloc, cursor, quantum) {
-                Ok(page) => Ok(page),
-                Err(_) => Err(PageFault::Memory),
-            },
+            Some(cursor) => self.page_from(alloc, store, cursor, quantum),
         }
     }
 }

@@ -4,10 +4,12 @@ use crate::tsv::push_line;
 use crate::{
     Counts, Page, PageFault, Part, State, follow_pages, parse_state, push_header, push_state,
 };
-use pattern_data::Table;
+use sage_outside::NeverBlocks;
 use std::alloc::Global;
 use std::test::Fail;
-use term_core::{IdTriple, Memory, Pattern, Place, Row, Term, Text, TextFault, Triple};
+use store_image::{have_short_terms, image};
+use term_core::{IdTriple, Pattern, Place, Row, Term, Text, TextFault, Triple};
+use triple_store::Store;
 
 fn text(alloc: Global, text: &str) -> Result<Text, TextFault> {
     Text::from_bytes(alloc, text.as_bytes())
@@ -35,6 +37,30 @@ fn document(alloc: Global) -> Result<Vec<Triple>, Fail>
     Ok(triples)
 }
 
+// The store file of the document.
+fn file(alloc: Global) -> Result<Vec<u8>, Fail> {
+    let document = document(alloc)?;
+    if have_short_terms(document.as_slice()) {
+        Ok(image(alloc, document.as_slice())?)
+    } else {
+        Err("a term is too long")?
+    }
+}
+
+fn open(file: &[u8]) -> Result<Store<NeverBlocks<'_>>, Fail> {
+    match Store::open(NeverBlocks::new(file)) {
+        Ok(store) => Ok(store),
+        Err(_) => Err("not a store")?,
+    }
+}
+
+fn given<T>(answer: Result<T, PageFault>) -> Result<T, Fail> {
+    match answer {
+        Ok(value) => Ok(value),
+        Err(_) => Err("refused")?,
+    }
+}
+
 fn pattern(alloc: Global, object: &str) -> Result<Pattern, TextFault> {
     Ok(Pattern {
         subject: Place::Var(text(alloc, "x")?),
@@ -54,14 +80,25 @@ fn names(alloc: Global) -> Result<Vec<Text>, Fail> {
 #[test]
 fn follows_pages_of_one_step(rt: HostRuntime) -> Result<(), Fail> {
     let alloc = rt.alloc();
-    let document = document(alloc)?;
-    let table = Table::build(alloc, document.as_slice())?;
+    let file = file(alloc)?;
+    let mut store = open(&file)?;
     let pattern = pattern(alloc, "y")?;
-    let part = Part::new(alloc, &table, &pattern)?;
+    let part = match Part::new(alloc, &mut store, &pattern) {
+        Ok(part) => part,
+        Err(_) => Err("refused")?,
+    };
     let names = names(alloc)?;
     let mut out = Vec::new(alloc);
     push_header(&mut out, names.as_slice())?;
-    let counts = follow_pages(alloc, &part, names.as_slice(), &[1], &mut out)?;
+    let counts = follow_pages(
+        alloc,
+        &mut store,
+        &part,
+        names.as_slice(),
+        &[1],
+        &mut out,
+    );
+    let counts = given(counts)?;
     assert_eq!(rt;
         counts,
         Counts {
@@ -76,14 +113,16 @@ fn follows_pages_of_one_step(rt: HostRuntime) -> Result<(), Fail> {
 
 // The page of one step of the pattern with this variable for its object; none where the bytes are refused.
 fn page_at(alloc: Global, object: &str, next: Option<&[u8]>) -> Result<Option<Page>, Fail> {
-    let document = document(alloc)?;
-    let table = Table::build(alloc, document.as_slice())?;
+    let file = file(alloc)?;
+    let mut store = open(&file)?;
     let pattern = pattern(alloc, object)?;
-    let part = Part::new(alloc, &table, &pattern)?;
-    match part.page(alloc, next, 1) {
-        Ok(page) => Ok(Some(page)),
+    let part = match Part::new(alloc, &mut store, &pattern) {
+        Ok(part) => part,
+        Err(_) => Err("refused")?,
+    };
+    match part.page(alloc, &mut store, next, 1) {
         Err(PageFault::Plan) => Ok(None),
-        Err(PageFault::Memory) => Err(Memory)?,
+        other => Ok(Some(given(other)?)),
     }
 }
 

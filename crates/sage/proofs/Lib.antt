@@ -4,3 +4,4 @@ pub mod Limits
 pub mod Ended
 pub mod Exact
 pub mod Answering
+pub mod Opened

@@ -1,7 +1,12 @@
 -- Why `try` is refused, from the names of its files on.
 use Rattle.std.specs.Prelude.{◌≡◌, ◌⊎◌, ℕ, string_bytes, List, Option, Result, Ok, Err}
 use Rattle.term_core.specs.declared.term.Triple.{Triple}
+use Rattle.term_core.specs.declared.pattern.Pattern.{Pattern}
+use Rattle.term_core.specs.Mappings.{Name}
 use Rattle.sage_outside.specs.Causes.{Rose}
+use Rattle.sage_outside.specs.declared.fault.StoreFault.TheVariants as store_faults
+use Rattle.pattern_page.specs.declared.page.PageFault.{PageFault}
+use Rattle.pattern_page.specs.declared.page.PageFault.TheVariants as page_faults
 use Rattle.sage_outside.specs.Shelf.{Files, Lacks}
 use Rattle.sage.specs.declared.answer.Refusal.{Refusal}
 use Rattle.sage.specs.declared.answer.Refusal.TheVariants as refusals
@@ -12,7 +17,7 @@ use Rattle.pattern_query.specs.declared.query.SelectQuery.{SelectQuery}
 use Rattle.plan_tree.specs.Laws.{AreVariables}
 use Rattle.pattern_query.specs.Query.{IsQuery}
 use Rattle.sage.specs.Data.{IsData, IsRefused}
-use Rattle.sage.specs.Outcome.{Answers, NoQuery, HasGot, TellsBoth, WhyTryQuery, WhyTryOutput}
+use Rattle.sage.specs.Outcome.{AnswersOver, Answers, NoQuery, HasGot, TellsBoth, WhyTryQuery, WhyTryOutput}
 
 -- what the bytes of a document give: its triples, or that it is none within the limits
 abbrev pub ReadsData : Result (List Triple) Refusal → List ℕ → Type 0
@@ -45,6 +50,21 @@ Answered (Err (refusals.Data fault)) document query quanta = IsRefused document 
 Answered (Err refusals.Query) document query quanta = ((triples : List Triple) × IsData document triples) × NoQuery query
 Answered (Err (refusals.File name)) document query quanta = ⊥
 Answered (Err refusals.Output) document query quanta = ⊥
+
+-- the answer over the data, or a refusal that is none of a suspended plan's bytes
+abbrev pub AnswersOr : List Triple → List Name → Pattern → List ℕ → Result Answer PageFault → Type 0
+AnswersOr triples names pattern quanta (Ok answer) = AnswersOver triples names pattern quanta answer.text.items (string_bytes answer.counts)
+AnswersOr triples names pattern quanta (Err page_faults.Plan) = ⊥
+AnswersOr triples names pattern quanta (Err (page_faults.Store fault)) = Unit {0}
+AnswersOr triples names pattern quanta (Err page_faults.Memory) = Unit {0}
+
+-- memory ran out, wherever it was
+abbrev pub IsMemory : PageFault → Type 0
+IsMemory page_faults.Memory = Unit {0}
+IsMemory (page_faults.Store store_faults.Memory) = Unit {0}
+IsMemory (page_faults.Store store_faults.Blocks) = ⊥
+IsMemory (page_faults.Store (store_faults.Damaged block)) = ⊥
+IsMemory page_faults.Plan = ⊥
 
 -- the refusal of a file that was not read
 abbrev pub NamesFile : FileFault → List ℕ → Refusal → Type 0

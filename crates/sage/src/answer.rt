@@ -1,20 +1,24 @@
 // The answer of a query over a document, from the bytes of both.
-ghost use Rattle.std.specs.Prelude.{◌≤◌, List, length, string_bytes, IfOk};
+ghost use Rattle.std.specs.Prelude.{◌≡◌, ◌≤◌, List, length, string_bytes, IfOk, IfErr};
 ghost use Rattle.term_core.specs.declared.term.Triple.{Triple as Triples};
 ghost use Rattle.term_core.specs.declared.pattern.Pattern.{Pattern as Patterns};
+ghost use Rattle.nt_text.specs.Limits.{AreWithinLimits};
 ghost use Rattle.plan_tree.specs.Laws.{AreVariables};
 ghost use Rattle.plan_tree.specs.Pages.{AreQuanta};
-ghost use Rattle.pattern_data.specs.Table.{IsTable, terms_in, ids_in};
-ghost use Rattle.pattern_page.specs.PagesOf.{IsPart, HasData, HasTriples};
+ghost use Rattle.store_image.specs.Holds.{Holds};
+ghost use Rattle.triple_store.specs.Ranges.{IsWithin as IsInStore};
+ghost use Rattle.pattern_page.specs.PagesOf.{IsPart, IsStoreOf, MayRefuse};
 ghost use Rattle.sage.specs.Outcome.{AnswersOver};
-ghost use Rattle.sage.specs.Refusals.{Answered, ReadsData, ReadsQuery};
+ghost use Rattle.sage.specs.Refusals.{Answered, AnswersOr, IsMemory, ReadsData, ReadsQuery};
 
 use nt_text::{DataFault, read_document};
-use pattern_data::Table;
-use pattern_page::{Part, counts_text, follow_pages, push_header};
+use pattern_page::{PageFault, Part, counts_text, follow_pages, push_header};
 use pattern_query::{QueryFault, SelectQuery, read_query};
+use sage_outside::{Blocks, NeverBlocks, StoreFault};
 use std::alloc::Global;
+use store_image::image;
 use term_core::{Items, Memory, Text, Triple};
+use triple_store::Store;
 
 /// Why a command does not do its work.
 #[derive(Debug, Drop)]
@@ -60,57 +64,127 @@ fn read_select(alloc: Global, query: &[u8]) -> Result<SelectQuery, Refusal>
     }
 }
 
-/// The answer over a part, in pages of as many steps as the quanta say.
-fn answer_part(alloc: Global, part: &Part, names: &[Text], quanta: &[u32]) -> Result<Answer, Memory>
-    requires data { HasData part.now }
+/// The answer over a part of a store, in pages of as many steps as the quanta say.
+fn answer_part<B: Blocks>(
+    alloc: Global,
+    store: &mut Store<B>,
+    part: &Part,
+    names: &[Text],
+    quanta: &[u32],
+) -> Result<Answer, PageFault>
+    requires range { IsInStore store.old part.now.range }
     requires some { AreQuanta quanta.now }
     requires variables { AreVariables names.now }
-    ensures { (triples : List Triples) (pattern : Patterns) → IsPart triples pattern part.now
-        → IfOk result (λ answer. AnswersOver triples names.now pattern quanta.now answer.text.items (string_bytes answer.counts)) }
+    ensures refused { IfErr result (λ e. MayRefuse e store.old store.new) }
+    ensures answered { (triples : List Triples) (pattern : Patterns) → IsPart triples pattern store.old part.now
+        → AnswersOr triples names.now pattern quanta.now result }
 {
     let mut text = Vec::new(alloc);
     push_header(&mut text, names)?;
-    let counts = follow_pages(alloc, part, names, quanta, &mut text)?;
+    let counts = follow_pages(alloc, store, part, names, quanta, &mut text)?;
     let counts = counts_text(alloc, counts)?;
     Ok(Answer { text, counts })
 }
 
-/// The answer over the data, in pages of as many steps as the quanta say.
-fn answer_table(
+/// The answer over a store, in pages of as many steps as the quanta say.
+fn answer_store<B: Blocks>(
     alloc: Global,
-    table: &Table,
+    store: &mut Store<B>,
     select: &SelectQuery,
     quanta: &[u32],
-) -> Result<Answer, Memory>
-    requires data { HasTriples table.now }
+) -> Result<Answer, PageFault>
     requires some { AreQuanta quanta.now }
     requires variables { AreVariables select.now.names }
-    ensures { (triples : List Triples) → IsTable triples (terms_in table.now) (ids_in table.now)
-        → IfOk result (λ answer. AnswersOver triples select.now.names select.now.pattern quanta.now answer.text.items (string_bytes answer.counts)) }
+    ensures refused { IfErr result (λ e. MayRefuse e store.old store.new) }
+    ensures answered { (triples : List Triples) → IsStoreOf triples store.old
+        → AnswersOr triples select.now.names select.now.pattern quanta.now result }
 {
-    let part = Part::new(alloc, table, &select.pattern)?;
-    answer_part(alloc, &part, select.names.as_slice(), quanta)
+    let part = Part::new(alloc, store, &select.pattern)?;
+    answer_part(alloc, store, &part, select.names.as_slice(), quanta)
 }
 
-/// The answer over triples, in pages of as many steps as the quanta say.
-fn answer_over(
+/// The one fault that a store in memory has.
+fn memory_of(fault: PageFault) -> Memory
+    requires { IsMemory fault }
+{
+    match fault {
+        PageFault::Memory => Memory,
+        PageFault::Store(StoreFault::Memory) => Memory,
+        _ => unreachable!(),
+    }
+}
+
+/// The answer over an opened store, and the blocks, which it gives back whatever came.
+fn answer_opened<B: Blocks>(
     alloc: Global,
-    triples: &[Triple],
+    store: Store<B>,
+    select: &SelectQuery,
+    quanta: &[u32],
+) -> (Result<Answer, PageFault>, B)
+    requires some { AreQuanta quanta.now }
+    requires variables { AreVariables select.now.names }
+    ensures refused { IfErr result.0 (λ e. MayRefuse e store (record { header = store.header; device = B.device result.1 })) }
+    ensures answered { (triples : List Triples) → IsStoreOf triples store
+        → AnswersOr triples select.now.names select.now.pattern quanta.now result.0 }
+{
+    let mut store = store;
+    let answer = answer_store(alloc, &mut store, select, quanta);
+    (answer, store.close())
+}
+
+/// The answer over a store file in memory, in pages of as many steps as the quanta say.
+fn answer_image(
+    alloc: Global,
+    image: &[u8],
     select: &SelectQuery,
     quanta: &[u32],
 ) -> Result<Answer, Memory>
-    requires few { length triples.now ≤ 4194303 }
+    requires held { (L : List Triples) × Holds L image.now }
     requires some { AreQuanta quanta.now }
     requires variables { AreVariables select.now.names }
-    ensures { IfOk result (λ answer. AnswersOver triples.now select.now.names select.now.pattern quanta.now answer.text.items (string_bytes answer.counts)) }
+    ensures { (L : List Triples) → Holds L image.now
+        → IfOk result (λ answer. AnswersOver L select.now.names select.now.pattern quanta.now answer.text.items (string_bytes answer.counts)) }
 {
-    let table = Table::build(alloc, triples)?;
-    answer_table(alloc, &table, select, quanta)
+    match Store::open(NeverBlocks::new(image)) {
+        Ok(store) => {
+            let (answer, _blocks) = answer_opened(alloc, store, select, quanta);
+            match answer {
+                Ok(answer) => Ok(answer),
+                Err(fault) => Err(memory_of(fault)),
+            }
+        }
+        Err(_) => unreachable!(),
+    }
+}
+
+/// The store file of triples, which are let go.
+fn image_of(alloc: Global, triples: Items<Triple>) -> Result<Vec<u8>, Memory>
+    requires { AreWithinLimits triples }
+    ensures { IfOk result (λ image. Holds triples image.items) }
+{
+    image(alloc, triples.as_slice())
+}
+
+/// The answer over triples, by a store file of them in memory, in pages of as many steps as the
+/// quanta say.
+fn answer_over(
+    alloc: Global,
+    triples: Items<Triple>,
+    select: &SelectQuery,
+    quanta: &[u32],
+) -> Result<Answer, Memory>
+    requires limits { AreWithinLimits triples }
+    requires some { AreQuanta quanta.now }
+    requires variables { AreVariables select.now.names }
+    ensures { IfOk result (λ answer. AnswersOver triples select.now.names select.now.pattern quanta.now answer.text.items (string_bytes answer.counts)) }
+{
+    let image = image_of(alloc, triples)?;
+    answer_image(alloc, &image, select, quanta)
 }
 
 /// Answers the query over the document, in pages of as many steps as the quanta say, which are walked
-/// round. The first page begins the plan, and each other goes on from the bytes that the page before
-/// gave.
+/// round. The document's triples are made into a store file in memory, which the pages read; the first
+/// begins the plan, and each other goes on from the bytes that the page before gave.
 ///
 /// `Data` comes exactly where the document is refused, `Query` exactly where the document is not and
 /// the query is.
@@ -125,7 +199,7 @@ pub fn answer_query(
 {
     match read_data(alloc, document) {
         Ok(triples) => match read_select(alloc, &query) {
-            Ok(select) => match answer_over(alloc, triples.as_slice(), &select, quanta) {
+            Ok(select) => match answer_over(alloc, triples, &select, quanta) {
                 Ok(answer) => Ok(answer),
                 Err(_) => Err(Refusal::Memory),
             },

@@ -1,7 +1,9 @@
 -- One more term among the places and the records.
-use Rattle.std.proofs.Common.{◌≡◌, ℕ, ◌+◌, ◌<◌, ◌≤◌, ◌++◌, max, List, [], ◌∷◌, length, drop, get_or, Some, sym, ap, subst, ◌∙◌, arith, append_assoc, length-append}
+use Rattle.std.proofs.Common.{◌≡◌, ℕ, ◌+◌, ◌<◌, ◌≤◌, ◌++◌, max, List, [], ◌∷◌, length, drop, get_or, map, flat_map, Some, refl, sym, ap, subst, ◌∙◌, arith, append_assoc, length-append}
 use Rattle.std.specs.List.{slice_get}
-use Rattle.std.proofs.lemmas.List.{drop_more}
+use Rattle.std.proofs.lemmas.Option.{slice_get_read}
+use Rattle.std.specs.Int.{w64, to_be_bytes}
+use Rattle.std.proofs.lemmas.List.{drop_more, length-map, get_or-map}
 use Rattle.term_core.specs.declared.term.Term.{Term}
 use Rattle.term_core.specs.declared.term.Term.TheVariants.{Iri, Blank, Literal}
 use Rattle.term_core.specs.Order.{size_of}
@@ -27,6 +29,19 @@ module _ (ts : List Term) (i : ℕ) (t : Term) (lt : i < length ts) (is : t ≡ 
       let rest = places_from (n + length (record_of t)) (drop (i + 1) ts) in
       ap (λ l. l ++ places_from m (drop (i + 1) ts)) e ∙ ap (λ k. (old ++ n ∷ []) ++ places_from k (drop (i + 1) ts)) f ∙ append_assoc old (n ∷ []) rest ∙ (sym (ap (λ l. old ++ places_from n l) here) ∙ h)
 
+  pub bytes_more : (old new all n : ℕ) → n ≡ length (record_of t) → new ≡ old + n → old + length (records_of (drop i ts)) ≡ all → new + length (records_of (drop (i + 1) ts)) ≡ all
+  bytes_more old new all n e f h =
+      let long : length (records_of (drop i ts)) ≡ length (record_of t) + length (records_of (drop (i + 1) ts)) = ap (λ l. length (records_of l)) here ∙ length-append (record_of t) (records_of (drop (i + 1) ts)) in
+      omega arith
+
+  pub numbers_more : (old new all : List ℕ) (n m : ℕ) → new ≡ old ++ to_be_bytes w64 n → m ≡ n + length (record_of t)
+      → old ++ flat_map (to_be_bytes w64) (places_from n (drop i ts)) ≡ all → new ++ flat_map (to_be_bytes w64) (places_from m (drop (i + 1) ts)) ≡ all
+  numbers_more old new all n m e f h =
+      let bytes : List ℕ → List ℕ = flat_map (to_be_bytes w64) in
+      let rest = places_from (n + length (record_of t)) (drop (i + 1) ts) in
+      ap (λ l. l ++ bytes (places_from m (drop (i + 1) ts))) e ∙ ap (λ k. (old ++ to_be_bytes w64 n) ++ bytes (places_from k (drop (i + 1) ts))) f
+      ∙ append_assoc old (to_be_bytes w64 n) (bytes rest) ∙ (sym (ap (λ l. old ++ bytes (places_from n l)) here) ∙ h)
+
   pub longest_more : (old new all : ℕ) → new ≡ max old (length (record_of t)) → max old (longest_of (drop i ts)) ≡ all → max new (longest_of (drop (i + 1) ts)) ≡ all
   longest_more old new all e h =
       let f : longest_of (drop i ts) ≡ max (length (record_of t)) (longest_of (drop (i + 1) ts)) = ap longest_of here in
@@ -39,3 +54,14 @@ before_more P ts i t at is before k u lt at_k =
     by_last (P u) k i (omega arith)
     (λ e. let same : t ≡ u = (let f : slice_get ts k ≡ slice_get ts i = ap (slice_get ts) e in cc) in subst P same is)
     (λ lower. before k u lower at_k)
+
+-- an element that was read, among the values of elements
+module _ {X : Type 0} (f : X → Term) (xs : List X) (i : ℕ) (x : X) (lt : i < length xs) (is : x ≡ get_or xs i x) where
+  pub mapped_within : i < length (map f xs)
+  mapped_within = omega (arith, length-map xs f)
+
+  pub mapped_read : f x ≡ get_or (map f xs) i (f x)
+  mapped_read = ap f is ∙ sym (get_or-map f xs i x (f x) lt)
+
+  pub mapped_at : slice_get (map f xs) i ≡ Some (f x)
+  mapped_at = slice_get_read (map f xs) _ i (f x) refl mapped_within mapped_read

@@ -13,5 +13,7 @@ mod search;
 mod tests;
 
 pub use dict::Dict;
-pub use dict_image::{DictImage, are_short, build};
+pub use dict_image::{
+    DictImage, Extent, are_short, build, extent_of, lent_are_short, push_places, push_records,
+};
 pub use law::{laid_out_images_hold, places_are_ranks, records_are_read};

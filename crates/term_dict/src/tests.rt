@@ -1,5 +1,7 @@
 // Dictionaries in blocks of memory.
-use crate::{Dict, DictImage, are_short, build};
+use crate::{
+    Dict, DictImage, are_short, build, extent_of, lent_are_short, push_places, push_records,
+};
 use sage_outside::{Blocks, MemBlocks, StoreFault};
 use std::alloc::{AllocError, Global};
 use std::process::Abort;
@@ -106,6 +108,40 @@ fn in_blocks(alloc: Global, made: &DictImage, payload: u32) -> Result<(Vec<u8>, 
         payload,
     };
     Ok((image, dict))
+}
+
+fn lent_terms(alloc: Global, terms: &[Term]) -> Result<Vec<&Term>, Fail> {
+    let mut lent = Vec::new(alloc);
+    for t in terms {
+        lent.push(t)?;
+    }
+    Ok(lent)
+}
+
+/// The places of the terms and their records behind a byte, and the bytes of all records and of the
+/// longest.
+fn pushed(rt: &impl Abort, alloc: Global, terms: &[Term]) -> Result<(Vec<u8>, u64, u32), Fail> {
+    let mut out = Vec::new(alloc);
+    out.push(7)?;
+    let lent = lent_terms(alloc, terms)?;
+    assert!(rt; lent.len() <= 12582909);
+    assert!(rt; lent_are_short(&lent));
+    let extent = extent_of(&lent);
+    push_places(&mut out, &lent)?;
+    push_records(&mut out, &lent)?;
+    Ok((out, extent.bytes, extent.longest))
+}
+
+#[test]
+fn places_and_records_are_appended(rt: HostRuntime) -> Result<(), Fail> {
+    let terms = three_terms(rt.alloc())?;
+    let (out, bytes, longest) = pushed(&rt, rt.alloc(), terms.as_slice())?;
+    assert_eq!(rt;
+        out.as_slice(),
+        b"\x07\0\0\0\0\0\0\0\0\0\0\0\0\0\0\0\x02\0\0\0\0\0\0\0\x05\0\0\0\0\0\0\0\x13\0b\x01i:\x02\0\0\0\x01\0\0\0\x02denxy".as_slice()
+    );
+    assert_eq!(rt; (bytes, longest), (19, 14));
+    Ok(())
 }
 
 #[test]

@@ -14,16 +14,17 @@ loop-step-preserved g c = record {
   later = omega arith;
   risen = omega arith;
   cost = omega arith;
+  start = elim c.if-is_before.branch [ then-is_before w ↦ omega arith | else-is_before w ↦ omega arith ];
   ordered = elim c.if-is_before.branch [ then-is_before w ↦ omega arith | else-is_before w ↦ omega arith ];
   high = elim c.if-is_before.branch [ then-is_before w ↦ omega arith | else-is_before w ↦ omega arith ];
   small = elim c.if-is_before.branch [ then-is_before w ↦ halved _ _ _ _ (omega arith) c.loop-step.invariant.small | else-is_before w ↦ halved _ _ _ _ (omega arith) c.loop-step.invariant.small ];
-  lower = λ image tells k e.
+  lower = λ image tells front k e.
       let m = c.loop-step.low + (c.loop-step.high - c.loop-step.low) / 2 in
       let test = before c.args.through c.args.prefix.now in
       let is = if_ok c.entry.result c.in_ok-key.key (λ x. x ≡ entry_at c.args.tree.now m image) c.in_ok-key.was (c.entry.ensures.found image (still _ _ image c.loop-step.invariant.image tells)) in
       elim c.if-is_before.branch [
         | then-is_before w ↦ tested c.args.tree.now test image m k c.in_ok-key.key true is (sym c.is_before.ensures ∙ w.if-is_before.true) (omega arith)
-        | else-is_before w ↦ c.loop-step.invariant.lower image tells k (e ∙ w.low-is)
+        | else-is_before w ↦ c.loop-step.invariant.lower image tells front k (e ∙ w.low-is)
       ];
   upper = λ image tells lt.
       let m = c.loop-step.low + (c.loop-step.high - c.loop-step.low) / 2 in

@@ -11,9 +11,11 @@ invariant-loop-step g l = record {
   later : (g.B.Blocks.device l.initial.blocks).faults ≤ (g.B.Blocks.device l.blocks).faults;
   risen : (g.B.Blocks.device l.initial.blocks).reads ≤ (g.B.Blocks.device l.blocks).reads;
   cost : (g.B.Blocks.device l.blocks).reads ≤ (g.B.Blocks.device l.initial.blocks).reads + 2 * l.step;
+  start : l.from ≤ l.low;
   ordered : l.low ≤ l.high;
   high : l.high ≤ l.tree.entries;
   small : (l.high - l.low) * 2 ^ l.step ≤ l.tree.entries;
-  lower : (image : List ℕ) → Tells (g.B.Blocks.device l.initial.blocks).image image → (k : ℕ) → k + 1 ≡ l.low → before l.through l.prefix (entry_at l.tree k image) ≡ true;
+  lower : (image : List ℕ) → Tells (g.B.Blocks.device l.initial.blocks).image image
+      → ((k : ℕ) → k + 1 ≡ l.from → before l.through l.prefix (entry_at l.tree k image) ≡ true) → (k : ℕ) → k + 1 ≡ l.low → before l.through l.prefix (entry_at l.tree k image) ≡ true;
   upper : (image : List ℕ) → Tells (g.B.Blocks.device l.initial.blocks).image image → l.high < l.tree.entries → before l.through l.prefix (entry_at l.tree l.high image) ≡ false;
 }

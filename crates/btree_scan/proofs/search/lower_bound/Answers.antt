@@ -1,4 +1,4 @@
-use Rattle.std.proofs.Common.{◌≡◌, count_by, false}
+use Rattle.std.proofs.Common.{◌≡◌, count_by, false, arith}
 use Rattle.btree_scan.specs.declared.prefix.Prefix.{Prefix}
 use Rattle.btree_scan.specs.Cuts.{IsEdge, before, front_cmp}
 use Rattle.btree_scan.proofs.Keys.{edge_counts}
@@ -7,7 +7,7 @@ use Rattle.btree_scan.proofs.search.lower_bound.Goals as goal
 
 pub returns-clause-edge : goal.returns-clause-edge
 unfolding front_cmp
-returns-clause-edge g c = λ image tells. c.cut_place.ensures.edge image tells
+returns-clause-edge g c = λ image tells. c.cut_place.ensures.edge image tells (λ k e. absurd (omega arith))
 
 pub returns-clause-found : goal.returns-clause-found
 unfolding front_cmp
@@ -15,4 +15,4 @@ returns-clause-found g c = λ es image tells lists.
     let key = c.args.key.now in
     let prefix : Prefix = record { len = 3; a = key.s; b = key.p; c = key.o } in
     if_ok_then c.cut_place.result (IsEdge c.args.tree.now (before false prefix) image) (λ n. n ≡ count_by (before false prefix) es)
-    (λ n edge. edge_counts c.args.tree.now es image false prefix n lists edge) (c.cut_place.ensures.edge image tells)
+    (λ n edge. edge_counts c.args.tree.now es image false prefix n lists edge) (c.cut_place.ensures.edge image tells (λ k e. absurd (omega arith)))

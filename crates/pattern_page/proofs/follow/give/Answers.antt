@@ -1,19 +1,31 @@
-use Rattle.pattern_page.specs.PagesOf.{page_of}
-use Rattle.pattern_page.specs.Followed.{next_in}
-use Rattle.pattern_page.proofs.FollowLinks.{pages_fit, steps_fit}
+use Rattle.std.proofs.Common.{◌≡◌, ◌++◌, Err, refl, sym, ap, ◌∙◌, subst, rules, arith}
+use Rattle.std.proofs.lemmas.Grind.{common_steps}
+use Rattle.std.specs.Prelude.{flat_map}
+use Rattle.pattern_page.specs.Results.{line}
+use Rattle.pattern_page.specs.declared.page.PageFault.{PageFault}
+use Rattle.pattern_page.specs.PagesOf.{seen, page_of}
+use Rattle.pattern_page.specs.Followed.{next_in, IsTurned}
+use Rattle.pattern_page.proofs.FollowLinks.{pages_fit, steps_fit, given_passed}
 use Rattle.pattern_page.proofs.follow.give.Goals as goal
 
-pub add-walk-requires-clause-pages : goal.add-walk-requires-clause-pages
-add-walk-requires-clause-pages c =
-    let part = c.args.part.now in
-    let D = c.requires.sound.0 in
-    let h = c.requires.sound.1 in
-    pages_fit D part.pattern.now part h c.args.walk.now.counts.steps c.args.walk.now.counts.pages (next_in c.args.walk.now) (c.requires.known D part.pattern.now h) c.requires.few
+pub returns-in_err-page-clause-page : goal.returns-in_err-page-clause-page
+returns-in_err-page-clause-page g c = λ D pattern h b few.
+    given_passed D pattern c.args.walk.now.counts.steps c.args.quantum c.args.names.now c.args.walk.now c.args.walk.now c.args.out.now.items c.args.out.now.items
+    c.from_residual.result c.in_err-page.field-0.0 c.from_residual.ensures
+    (subst (IsTurned D pattern c.args.walk.now.counts.steps c.args.quantum) c.in_err-page.was (c.turn.ensures.page D pattern h b))
 
-pub add-walk-requires-clause-steps : goal.add-walk-requires-clause-steps
-add-walk-requires-clause-steps c =
-    let part = c.args.part.now in
-    let D = c.requires.sound.0 in
-    let h = c.requires.sound.1 in
-    steps_fit D part.pattern.now part h c.args.walk.now.counts.steps c.args.quantum (next_in c.args.walk.now) (page_of c.in_ok-page.page)
-    (c.requires.known D part.pattern.now h) (c.in_ok-page.ensures D part.pattern.now h)
+pub returns-clause-page : goal.returns-clause-page
+returns-clause-page g c = λ D pattern h b few.
+    let part = seen c.args.part.now h.terms h.ids in
+    let walk = c.args.walk.now in
+    let page = c.in_ok-page.ensures.page D pattern h b in
+    record {
+      page = page_of c.in_ok-page.page;
+      page_is = page;
+      counts_are = c.add-walk.ensures
+          (pages_fit D pattern part h.is_of walk.counts.steps walk.counts.pages (next_in walk) b few)
+          (steps_fit D pattern part h.is_of walk.counts.steps c.args.quantum (next_in walk) (page_of c.in_ok-page.page) b page);
+      lines_are = c.in_ok-push_lines.ensures ∙ ap (λ rows. c.args.out.now.items ++ flat_map (line c.args.names.now) rows) c.as_slice.ensures;
+      next_is = refl;
+      more_is = first_of (search rules, grind (arith, common_steps));
+    }

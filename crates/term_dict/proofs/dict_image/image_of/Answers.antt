@@ -12,16 +12,17 @@ use Rattle.term_dict.proofs.dict_image.image_of.Goals as goal
 pub loop-t-preserved : goal.loop-t-preserved
 loop-t-preserved c =
     let t = c.t-item.result in
-    let new = on_ok c.put_record.result _ (c.put_record.new.records ≡ c.loop-t.records ++ record_of t) c.in_ok-put_record.was c.put_record.ensures.put in
-    let text = on_ok c.put_record.result _ (IsText t) c.in_ok-put_record.was c.put_record.ensures.text in
+    let new = on_ok c.push_record.result _ (c.push_record.new.out.items ≡ c.loop-t.records.items ++ record_of t) c.in_ok-push_record.was c.push_record.ensures.put in
+    let text = on_ok c.push_record.result _ (IsText t) c.in_ok-push_record.was c.push_record.ensures.text in
+    let from : c.len-from.result ≡ length c.loop-t.records.items = grind (arith, common_steps, c.len-from.ensures) in
     let put = on_ok c.push.result _ (c.push.new.self ≡ c.loop-t.places ++ c.len-from.result ∷ []) c.in_ok-push.was c.push.ensures.ok in
-    let more : length c.put_record.new.records ≡ length c.loop-t.records + length (record_of t) = ap length new ∙ length-append _ _ in
+    let more : length c.push_record.new.out.items ≡ length c.loop-t.records.items + length (record_of t) = ap length new ∙ length-append c.loop-t.records.items (record_of t) in
     let at : slice_get c.args.terms.now c.loop-t.t-index ≡ Some t = slice_get_read c.args.terms.now _ c.loop-t.t-index t refl c.loop-t-test.true c.t-item.is in
     let short = record_short t (c.requires.short c.loop-t.t-index t at) in
-    let max_is : c.max-longest.result ≡ max c.loop-t.longest (length (record_of t)) = grind (arith, common_steps, c.len.ensures, c.len-from.ensures, c.max-longest.ensures) in
+    let max_is : c.max-longest.result ≡ max c.loop-t.longest (length (record_of t)) = grind (arith, common_steps, c.len.ensures, from, more, c.max-longest.ensures) in
     record {
       records = records_more c.args.terms.now c.loop-t.t-index t c.loop-t-test.true c.t-item.is _ _ _ new c.loop-t.invariant.records;
-      places = places_more c.args.terms.now c.loop-t.t-index t c.loop-t-test.true c.t-item.is _ _ _ _ _ (put ∙ ap (λ n. c.loop-t.places ++ n ∷ []) c.len-from.ensures) more c.loop-t.invariant.places;
+      places = places_more c.args.terms.now c.loop-t.t-index t c.loop-t-test.true c.t-item.is _ _ _ _ _ (put ∙ ap (λ n. c.loop-t.places ++ n ∷ []) from) more c.loop-t.invariant.places;
       longest = longest_more c.args.terms.now c.loop-t.t-index t c.loop-t-test.true c.t-item.is c.loop-t.longest _ _ max_is c.loop-t.invariant.longest;
       small = omega arith;
       texts = before_more IsText c.args.terms.now c.loop-t.t-index t at text c.loop-t.invariant.texts;

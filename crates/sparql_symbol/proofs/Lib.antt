@@ -1,0 +1,12 @@
+pub mod Undoings
+pub mod Escapes
+pub mod Frames
+pub mod Nestings
+pub mod Prologues
+pub mod Standing
+pub mod NameParts
+pub mod Readings
+pub mod Declarations
+pub mod Judged
+pub mod Laws
+pub mod Firsts

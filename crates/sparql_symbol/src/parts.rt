@@ -1,0 +1,77 @@
+//! Parts of a token's text: what stands between its marks, and what a prefix is.
+
+ghost use Rattle.std.specs.Prelude.{◌≡◌, ◌==◌, ℕ};
+ghost use Rattle.std.specs.List.{slice_range};
+ghost use Rattle.term_core.specs.Characters.{after, begins};
+ghost use Rattle.term_core.specs.Names.{is_scheme, has_scheme};
+ghost use Rattle.sparql_symbol.specs.Reading as spec;
+ghost use Rattle.sparql_symbol.specs.Reading.{Stands, IsFramed, before_colon, behind_colon};
+
+use term_core::Token;
+
+/// The text of a token.
+pub fn spelling(text: &str, token: Token) -> &str
+    requires { Stands text.now token }
+    ensures { result.now ≡ slice_range text.now token.from token.to }
+{
+    &text[token.from..token.to]
+}
+
+/// What stands between so many bytes at the front and so many at the end.
+pub fn within(text: &str, front: usize, back: usize) -> &str
+    requires { IsFramed text.now front back }
+    ensures { result.now ≡ spec.within front back text.now }
+{
+    &text[front..text.len() - back]
+}
+
+/// What stands in front of the first colon and behind it: all and nothing where there is none.
+pub fn split_colon(text: &str) -> (&str, &str)
+    ensures before { result.0.now ≡ before_colon text.now }
+    ensures behind { result.1.now ≡ behind_colon text.now }
+{
+    for (i, byte) in text.as_bytes().iter().enumerate() {
+        if *byte == b':' {
+            return (&text[..i], &text[i + 1..]);
+        }
+    }
+    (text, "")
+}
+
+/// How many quotes open a string.
+pub fn quotes_of(text: &[u8]) -> usize
+    ensures { result ≡ spec.quotes_of text.now }
+{
+    match text {
+        [a, b, c, ..] => { if *a == *b && *b == *c { 3 } else { 1 } }
+        _ => 1,
+    }
+}
+
+fn is_of_scheme(byte: u8) -> bool
+    ensures { result ≡ is_scheme byte }
+{
+    byte.is_ascii_alphabetic() || byte.is_ascii_digit() || matches!(byte, b'+' | b'-' | b'.')
+}
+
+/// Whether a colon stands behind the longest front that may stand in a scheme.
+fn colon_follows(text: &[u8]) -> bool
+    ensures { result ≡ begins (λ d. d == 58) (after is_scheme text.now) }
+{
+    for byte in text {
+        if !is_of_scheme(*byte) {
+            return *byte == b':';
+        }
+    }
+    false
+}
+
+/// Whether an IRI has a scheme (RFC 3986, section 3.1).
+pub fn has_scheme(iri: &[u8]) -> bool
+    ensures { result ≡ has_scheme iri.now }
+{
+    match iri {
+        [first, more @ ..] => first.is_ascii_alphabetic() && colon_follows(more),
+        [] => false,
+    }
+}

@@ -1,0 +1,96 @@
+-- How many bytes the parts of an image take, and how many terms and triples there are.
+use Rattle.std.proofs.Common.{◌≡◌, ℕ, ◌+◌, ◌*◌, ◌<◌, ◌≤◌, ◌++◌, List, [], ◌∷◌, length, map, take, get_or, refl, sym, ap, ◌∙◌, subst, ⊎_elim, inl, inr, arith, length-append}
+use Rattle.std.specs.Prelude.{flat_map}
+use Rattle.std.specs.Int.{w64, to_be_bytes}
+use Rattle.term_core.specs.declared.term.Term.{Term}
+use Rattle.term_core.specs.declared.term.Triple.{Triple}
+use Rattle.term_core.specs.declared.pattern.IdTriple.{IdTriple}
+use Rattle.term_core.specs.Order.{term_cmp, size_of}
+use Rattle.term_core.specs.OrderLaws.{terms_total}
+use Rattle.term_core.specs.Bags.{In}
+use Rattle.std.proofs.lemmas.List.{take_more, flat_map_more}
+use Rattle.term_core.proofs.Bags.{In-append_cases, In-flat_map, from_In-flat_map}
+use Rattle.sparql_tree.specs.Bgp.{parts}
+use Rattle.plan_tree.specs.Index.{by_subject, triple_cmp, in_order}
+use Rattle.plan_tree.proofs.Orders.{AreDistinct-ordered}
+use Rattle.plan_tree.proofs.Ranges.{index_total, listing_is}
+use Rattle.term_dict.specs.Records.{record_of}
+use Rattle.term_dict.specs.Built.{records_of, places_from, longest_of, AreShort}
+use Rattle.plan_tree.proofs.Ranked.{In-slice_get, slice_get-In}
+use Rattle.term_dict.proofs.Steps.{record_short}
+use Rattle.btree_build.specs.Lists.{entry_bytes, list_bytes}
+use Rattle.triple_table.specs.Table.{decode, IsTable}
+use Rattle.triple_table.proofs.TableLists.{length-mapped, In-get_or}
+use Rattle.triple_table.proofs.TableSlots.{length-parts}
+use Rattle.triple_table.proofs.Keys.{distinct_fewer}
+
+length_entry : (e : IdTriple) → length (entry_bytes e) ≡ 12
+unfolding entry_bytes
+length_entry e = refl
+
+pub length_list : (es : List IdTriple) → length (list_bytes es) ≡ 12 * length es
+length_list [] = refl
+length_list (e ∷ es) = length-append (entry_bytes e) (list_bytes es) ∙ omega (arith, length_entry e, length_list es)
+
+pub length_places : (n : ℕ) (ts : List Term) → length (flat_map (to_be_bytes w64) (places_from n ts)) ≡ 8 * (length ts + 1)
+length_places n [] = refl
+length_places n (t ∷ ts) =
+    let rest = flat_map (to_be_bytes w64) (places_from (n + length (record_of t)) ts) in
+    let eight : length (to_be_bytes w64 n) ≡ 8 = refl in
+    length-append (to_be_bytes w64 n) rest ∙ omega (arith, eight, length_places (n + length (record_of t)) ts)
+
+-- terms within their limit have short records
+pub records_short : (ts : List Term) → ((t : Term) → In ts t → size_of t ≤ 262144) → length (records_of ts) ≤ length ts * 262153
+records_short [] short = omega arith
+records_short (t ∷ ts) short =
+    omega (arith, length-append (record_of t) (records_of ts), record_short t (short t (inl refl)), records_short ts (λ u i. short u (inr i)))
+
+pub longest_short : (ts : List Term) → ((t : Term) → In ts t → size_of t ≤ 262144) → longest_of ts ≤ 262153
+longest_short [] short = omega arith
+longest_short (t ∷ ts) short = omega (arith, record_short t (short t (inl refl)), longest_short ts (λ u i. short u (inr i)))
+
+-- the limit of each, by membership and by place
+pub short_members : (ts : List Term) → AreShort ts → (t : Term) → In ts t → size_of t ≤ 262144
+short_members ts short t i = let at = slice_get-In ts t i in short at.0 t at.1
+
+pub short_places : (ts : List Term) → ((t : Term) → In ts t → size_of t ≤ 262144) → AreShort ts
+short_places ts short k t at = short t (In-slice_get ts k t at)
+
+-- a number of 64 bits counts the bytes of all records
+pub extent_small : (ts us : List Term) (n : ℕ) → ts ≡ us → AreShort us → length us ≤ 12582909 → n ≡ length (records_of ts) → n ≤ 12582909 * 262153
+extent_small ts us n same short few is = omega (arith, ap (λ l. length (records_of l)) same, records_short us (short_members us short))
+
+module _ (L : List Triple) (terms : List Term) (ids : List IdTriple) (table : IsTable L terms ids) where
+  listed : length ids ≡ length (in_order (triple_cmp by_subject) L)
+  listed = sym (length-mapped (decode terms) ids) ∙ ap length table.listing
+
+  -- there are no more triples than the list has
+  pub no_more : length ids ≤ length L
+  no_more =
+      let own = (listing_is by_subject L).is in
+      omega (arith, listed, distinct_fewer (in_order (triple_cmp by_subject) L) L (AreDistinct-ordered (triple_cmp by_subject) (index_total by_subject) (in_order (triple_cmp by_subject) L) own.ordered) own.same.to)
+
+  -- each triple names three terms at most
+  pub three_each : length terms ≤ 3 * length ids
+  three_each =
+      let all = map (decode terms) ids in
+      omega (
+        arith,
+        length-mapped (decode terms) ids,
+        length-parts all,
+        distinct_fewer terms (flat_map parts all) (AreDistinct-ordered term_cmp terms_total terms table.rising)
+            (λ t i. let r = from_In-flat_map parts L t (table.to t i) in
+            In-flat_map parts all r.0 t (subst (λ l. In l r.0) (sym table.listing) ((listing_is by_subject L).is.same.from r.0 r.1)) r.2),
+      )
+
+-- terms within the limit, with those of one more triple
+pub terms_more : (P : Term → Type 0) (L : List Triple) (i : ℕ) (x : Triple) → i < length L → x ≡ get_or L i x → ((t : Term) → In (parts x) t → P t)
+    → ((t : Term) → In (flat_map parts (take i L)) t → P t) → (t : Term) → In (flat_map parts (take (i + 1) L)) t → P t
+terms_more P L i x lt is here before t m =
+    let more : take (i + 1) L ≡ take i L ++ x ∷ [] = take_more L i x lt ∙ ap (λ y. take i L ++ y ∷ []) (sym is) in
+    let all : flat_map parts (take (i + 1) L) ≡ flat_map parts (take i L) ++ parts x = ap (flat_map parts) more ∙ sym (flat_map_more parts [] (take i L) x) in
+    ⊎_elim (before t) (here t) (In-append_cases (flat_map parts (take i L)) (parts x) t (subst (λ l. In l t) all m))
+
+-- the terms of a triple are among those of the list
+pub terms_of_one : (L : List Triple) (i : ℕ) (x : Triple) → i < length L → x ≡ get_or L i x → (t : Term) → In (parts x) t → In (flat_map parts L) t
+terms_of_one L i x lt is t m = In-flat_map parts L x t (subst (In L) (sym is) (In-get_or L i x lt)) m

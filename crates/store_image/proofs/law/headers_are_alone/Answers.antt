@@ -1,0 +1,5 @@
+use Rattle.store_image.proofs.Headers.{header_alone}
+use Rattle.store_image.proofs.law.headers_are_alone.Goals as goal
+
+pub returns : goal.returns
+returns c = header_alone

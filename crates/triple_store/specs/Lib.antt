@@ -1,0 +1,5 @@
+pub mod Stores
+pub mod Entries
+pub mod Ranges
+pub mod Asked
+pub mod Stretches

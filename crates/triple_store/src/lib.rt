@@ -1,0 +1,16 @@
+//! The set of triples behind a store file: terms by their ranks, and triples in three orders.
+#![tactic(auto)]
+
+mod asked;
+mod law;
+mod list;
+mod range;
+#[cfg(test)]
+mod range_tests;
+mod store;
+#[cfg(test)]
+mod tests;
+
+pub use law::stores_stay;
+pub use range::Range;
+pub use store::{Info, OpenFault, Store, Unopened};

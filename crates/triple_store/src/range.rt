@@ -1,0 +1,249 @@
+//! The triples of a store that agree with the terms of a pattern.
+ghost use Rattle.std.specs.Prelude.{◌^◌, ◌≡◌, ◌<◌, ◌≤◌, ◌+◌, ◌-◌, ◌*◌, ◌/◌, ℕ, List, Option, length, slice_get, Some, None, is_some, Ok, Err, IfOk};
+ghost use Rattle.std.specs.FinMap as finmap;
+ghost use Rattle.term_core.specs.declared.term.Term.{Term as Terms};
+ghost use Rattle.term_core.specs.declared.term.Triple.{Triple as Triples};
+ghost use Rattle.term_core.specs.declared.pattern.IdTriple.{IdTriple as Ids};
+ghost use Rattle.sage_outside.specs.Causes.{Rose};
+ghost use Rattle.sage_outside.specs.Blocks.{HasRead, Tells};
+ghost use Rattle.sparql_tree.specs.Bgp.{pattern_of, position_of, filled};
+ghost use Rattle.plan_tree.specs.Index.{index_of};
+ghost use Rattle.plan_tree.specs.Trace.{range as agreeing, fits, agrees};
+ghost use Rattle.term_dict.specs.Layout.{Reads, longest_in};
+ghost use Rattle.store_image.specs.Header.{dict_of};
+ghost use Rattle.triple_store.specs.Entries.{triple_at, HasEntry};
+ghost use Rattle.triple_table.specs.Table.{IsTable, IsFound, IsBelow, term_at, decode};
+ghost use Rattle.triple_table.specs.Keys.{order_of};
+ghost use Rattle.triple_store.specs.Asked.{admits, is_bound, takes, index_for};
+ghost use Rattle.triple_store.specs.Stretches.{IsStretch};
+ghost use Rattle.triple_store.specs.Stores.{View, IsKept, IsShown, IsBroken};
+ghost use Rattle.triple_store.specs.Ranges.{IsWithin, IsRangeOf, triples_at};
+
+use crate::asked::{Asked, Wanted};
+use crate::store::Store;
+use sage_outside::{Blocks, ReadFault, StoreFault};
+use std::alloc::Global;
+use term_core::{IdTriple, Pattern, Place};
+
+/// Triples that stand side by side in one of a store's three lists: those at the places from `first`
+/// up to `end`, the latter not counted, of the list of the order.
+#[derive(Clone, Copy, Debug, PartialEq, Eq)]
+pub struct Range {
+    pub order: u8,
+    pub first: u32,
+    pub end: u32,
+}
+
+/// The fault of a call that takes no memory as one of a call that does.
+fn store_fault(fault: ReadFault) -> StoreFault
+    ensures blocks { result ≡ StoreFault.Blocks → fault ≡ ReadFault.Blocks }
+    ensures damaged { (block : ℕ) → result ≡ StoreFault.Damaged block → fault ≡ ReadFault.Damaged block }
+    ensures memory { result ≡ StoreFault.Memory → ⊥ }
+{
+    match fault {
+        ReadFault::Blocks => StoreFault::Blocks,
+        ReadFault::Damaged { block } => StoreFault::Damaged { block },
+    }
+}
+
+impl Range {
+    /// How many triples there are.
+    pub fn len(&self) -> u32
+        requires { self.now.first ≤ self.now.end }
+        ensures count { result ≡ self.now.end - self.now.first }
+        ensures few { result < 2 ^ 32 }
+    {
+        self.end - self.first
+    }
+
+    /// The place in the range of a place of the list, or nothing where that is not in the range.
+    fn place_at(&self, place: u32) -> Option<u32>
+        ensures at { (k : ℕ) → result ≡ Some k → (self.now.first + k ≡ place) × (place < self.now.end) }
+        ensures none { result ≡ None → self.now.first ≤ place → place < self.now.end → ⊥ }
+    {
+        if place < self.first {
+            return None;
+        }
+        if place >= self.end {
+            return None;
+        }
+        Some(place - self.first)
+    }
+}
+
+impl<B: Blocks> Store<B> {
+    /// What a place of a pattern wants.
+    fn wanted_at(&mut self, alloc: Global, place: &Place) -> Result<Wanted, StoreFault>
+        ensures kept { IsKept self.old self.new }
+        ensures cost { HasRead self.old.device self.new.device (32 * (4 + (dict_of self.old.header).bytes / 4080)) }
+        ensures few_reads { (image : List ℕ) → Tells self.old.device.image image
+            → self.new.device.reads ≤ self.old.device.reads + (25 * (4 + longest_in (dict_of self.old.header) image / 4080)) }
+        ensures failed { result ≡ Err StoreFault.Blocks → Rose self.old.device.faults self.new.device.faults }
+        ensures bound { IfOk result (λ w. is_bound w ≡ is_some (filled finmap.empty (position_of place.now))) }
+        ensures found { (terms : List Terms) (ids : List Ids) (k : ℕ) → IsShown self.old terms ids → k < length terms
+            → IfOk result (λ w. admits w k ≡ fits (filled finmap.empty (position_of place.now)) (term_at terms k)) }
+        ensures damaged { (image : List ℕ) (block : ℕ) → Tells self.old.device.image image
+            → result ≡ Err (StoreFault.Damaged block) → IsBroken self.old.header image block }
+        ensures whole { (terms : List Terms) (ids : List Ids) (block : ℕ) → IsShown self.old terms ids
+            → result ≡ Err (StoreFault.Damaged block) → ⊥ }
+    {
+        match place {
+            Place::Term(term) => Ok(Wanted::of(self.id_of(alloc, term)?)),
+            Place::Var(_) => Ok(Wanted::Any),
+            Place::Blank(_) => Ok(Wanted::Any),
+        }
+    }
+
+    /// The ranks that a pattern wants.
+    fn asked_of(&mut self, alloc: Global, p: &Pattern) -> Result<Asked, StoreFault>
+        ensures kept { IsKept self.old self.new }
+        ensures cost { HasRead self.old.device self.new.device (96 * (4 + (dict_of self.old.header).bytes / 4080)) }
+        ensures few_reads { (image : List ℕ) → Tells self.old.device.image image
+            → self.new.device.reads ≤ self.old.device.reads + (75 * (4 + longest_in (dict_of self.old.header) image / 4080)) }
+        ensures failed { result ≡ Err StoreFault.Blocks → Rose self.old.device.faults self.new.device.faults }
+        ensures index { IfOk result (λ asked. index_for asked ≡ index_of (pattern_of p.now) finmap.empty) }
+        ensures found { (terms : List Terms) (ids : List Ids) (i : Ids) → IsShown self.old terms ids → IsBelow (length terms) i
+            → IfOk result (λ asked. takes asked i ≡ agrees (pattern_of p.now) finmap.empty (decode terms i)) }
+        ensures damaged { (image : List ℕ) (block : ℕ) → Tells self.old.device.image image
+            → result ≡ Err (StoreFault.Damaged block) → IsBroken self.old.header image block }
+        ensures whole { (terms : List Terms) (ids : List Ids) (block : ℕ) → IsShown self.old terms ids
+            → result ≡ Err (StoreFault.Damaged block) → ⊥ }
+    {
+        let subject = self.wanted_at(alloc, &p.subject)?;
+        let predicate = self.wanted_at(alloc, &p.predicate)?;
+        let object = self.wanted_at(alloc, &p.object)?;
+        Ok(Asked {
+            s: subject,
+            p: predicate,
+            o: object,
+        })
+    }
+
+    /// The range of the triples that are asked for.
+    fn range_asked(&mut self, asked: &Asked) -> Result<Range, ReadFault>
+        ensures kept { IsKept self.old self.new }
+        ensures cost { HasRead self.old.device self.new.device 88 }
+        ensures failed { result ≡ Err ReadFault.Blocks → Rose self.old.device.faults self.new.device.faults }
+        ensures within { IfOk result (IsWithin self.old) }
+        ensures index { IfOk result (λ r. order_of r.order ≡ index_for asked.now) }
+        ensures found { (terms : List Terms) (ids : List Ids) → IsShown self.old terms ids
+            → IfOk result (IsStretch (takes asked.now) ids) }
+        ensures whole { (block : ℕ) → result ≡ Err (ReadFault.Damaged block) → ⊥ }
+    {
+        let order = asked.order();
+        match asked.prefix() {
+            None => Ok(Range {
+                order,
+                first: 0,
+                end: 0,
+            }),
+            Some(prefix) => {
+                let (first, end) = self.range(order, &prefix)?;
+                Ok(Range { order, first, end })
+            }
+        }
+    }
+
+    /// The range of the triples that agree with the terms of a pattern: empty where the data lack
+    /// one of them. Variables and blank nodes ask for nothing here, not even that one of them that
+    /// stands twice has one value. Memory is taken while the ranks of the terms are looked for.
+    ///
+    /// `Damaged` names the block of a broken number or record of the dictionary that the search for
+    /// a term came upon. `Blocks` comes only where a read failed.
+    pub fn range_of(&mut self, alloc: Global, p: &Pattern) -> Result<Range, StoreFault>
+        ensures kept { IsKept self.old self.new }
+        ensures index { IfOk result (λ r. order_of r.order ≡ index_of (pattern_of p.now) finmap.empty) }
+        ensures within { IfOk result (IsWithin self.old) }
+        ensures cost { HasRead self.old.device self.new.device (96 * (4 + (dict_of self.old.header).bytes / 4080) + 88) }
+        ensures few_reads { (image : List ℕ) → Tells self.old.device.image image
+            → self.new.device.reads ≤ self.old.device.reads + (75 * (4 + longest_in (dict_of self.old.header) image / 4080) + 88) }
+        ensures failed { result ≡ Err StoreFault.Blocks → Rose self.old.device.faults self.new.device.faults }
+        ensures found { (L : List Triples) (terms : List Terms) (ids : List Ids) → IsTable L terms ids → IsShown self.old terms ids
+            → IfOk result (IsRangeOf L terms ids (pattern_of p.now)) }
+        ensures damaged { (image : List ℕ) (block : ℕ) → Tells self.old.device.image image
+            → result ≡ Err (StoreFault.Damaged block) → IsBroken self.old.header image block }
+        ensures whole { (terms : List Terms) (ids : List Ids) (block : ℕ) → IsShown self.old terms ids
+            → result ≡ Err (StoreFault.Damaged block) → ⊥ }
+    {
+        let asked = self.asked_of(alloc, p)?;
+        match self.range_asked(&asked) {
+            Ok(range) => Ok(range),
+            Err(fault) => Err(store_fault(fault)),
+        }
+    }
+
+    /// How many triples agree with the terms of a pattern: none where the data lack one of them.
+    /// Memory is taken while the ranks of the terms are looked for.
+    ///
+    /// `Damaged` and `Blocks` come as `range_of` has them.
+    pub fn count(&mut self, alloc: Global, p: &Pattern) -> Result<u32, StoreFault>
+        ensures kept { IsKept self.old self.new }
+        ensures cost { HasRead self.old.device self.new.device (96 * (4 + (dict_of self.old.header).bytes / 4080) + 88) }
+        ensures few_reads { (image : List ℕ) → Tells self.old.device.image image
+            → self.new.device.reads ≤ self.old.device.reads + (75 * (4 + longest_in (dict_of self.old.header) image / 4080) + 88) }
+        ensures within { IfOk result (λ n. n ≤ self.old.header.triples) }
+        ensures failed { result ≡ Err StoreFault.Blocks → Rose self.old.device.faults self.new.device.faults }
+        ensures found { (L : List Triples) (terms : List Terms) (ids : List Ids) → IsTable L terms ids → IsShown self.old terms ids
+            → IfOk result (λ n. n ≡ length (agreeing L (pattern_of p.now) finmap.empty)) }
+        ensures damaged { (image : List ℕ) (block : ℕ) → Tells self.old.device.image image
+            → result ≡ Err (StoreFault.Damaged block) → IsBroken self.old.header image block }
+        ensures whole { (terms : List Terms) (ids : List Ids) (block : ℕ) → IsShown self.old terms ids
+            → result ≡ Err (StoreFault.Damaged block) → ⊥ }
+    {
+        let range = self.range_of(alloc, p)?;
+        Ok(range.len())
+    }
+
+    /// The triple at a place of a range, counted from 0, each term by its rank. At most two blocks
+    /// are read.
+    ///
+    /// `Blocks` comes only where a read failed, `Damaged` as `entry` has it, and `Memory` never.
+    pub fn triple(&mut self, range: &Range, place: u32) -> Result<IdTriple, StoreFault>
+        requires range { IsWithin self.old range.now }
+        requires within { place < range.now.end - range.now.first }
+        ensures kept { IsKept self.old self.new }
+        ensures cost { HasRead self.old.device self.new.device 2 }
+        ensures failed { result ≡ Err StoreFault.Blocks → Rose self.old.device.faults self.new.device.faults }
+        ensures own { result ≡ Err StoreFault.Memory → ⊥ }
+        ensures named { IfOk result (IsBelow self.old.header.terms) }
+        ensures read { (image : List ℕ) → Tells self.old.device.image image
+            → Reads (λ t. t) result (triple_at self.old.header range.now.order (range.now.first + place) image) }
+        ensures found { (terms : List Terms) (ids : List Ids) → IsShown self.old terms ids
+            → IfOk result (λ t. slice_get (triples_at ids range.now) place ≡ Some t) }
+        ensures whole { (terms : List Terms) (ids : List Ids) (block : ℕ) → IsShown self.old terms ids
+            → result ≡ Err (StoreFault.Damaged block) → ⊥ }
+    {
+        match self.entry(range.order, range.first + place) {
+            Ok(triple) => Ok(triple),
+            Err(fault) => Err(store_fault(fault)),
+        }
+    }
+
+    /// The place of a triple in a range, counted from 0, or `None` where it is not there: a search
+    /// in the range's list. At most 46 blocks are read.
+    ///
+    /// `Blocks` comes only where a read failed, `Damaged` and `Memory` never.
+    pub fn place_of(&mut self, range: &Range, t: &IdTriple) -> Result<Option<u32>, StoreFault>
+        requires range { IsWithin self.old range.now }
+        ensures kept { IsKept self.old self.new }
+        ensures cost { HasRead self.old.device self.new.device 46 }
+        ensures within { (place : ℕ) → result ≡ Ok (Some place) → place < range.now.end - range.now.first }
+        ensures failed { result ≡ Err StoreFault.Blocks → Rose self.old.device.faults self.new.device.faults }
+        ensures there { (image : List ℕ) (place : ℕ) → Tells self.old.device.image image → result ≡ Ok (Some place)
+            → HasEntry self.old.header range.now.order t.now image (range.now.first + place) }
+        ensures found { (terms : List Terms) (ids : List Ids) → IsShown self.old terms ids
+            → IfOk result (IsFound (triples_at ids range.now) t.now) }
+        ensures whole { (terms : List Terms) (ids : List Ids) (block : ℕ) → IsShown self.old terms ids
+            → result ≡ Err (StoreFault.Damaged block) → ⊥ }
+        ensures undamaged { (block : ℕ) → result ≡ Err (StoreFault.Damaged block) → ⊥ }
+        ensures own { result ≡ Err StoreFault.Memory → ⊥ }
+    {
+        match self.place_in(range.order, t) {
+            Ok(found) => match found {
+                Some(place) => Ok(range.place_at(place)),
+                None => Ok(None),
+            },
+            Err(fault) => Err(store_fault(fault)),
+        }
+    }
+}

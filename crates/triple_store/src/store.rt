@@ -1,0 +1,342 @@
+//! An opened store.
+ghost use Rattle.std.specs.Prelude.{◌≡◌, ◌<◌, ◌≤◌, ◌↔◌, ◌⊎◌, ◌+◌, ◌*◌, ◌/◌, ℕ, List, length, slice_get, count_by, Some, None, Contains, IsTrue, Ok, Err, IfOk, IfErr, MatchResult, true};
+ghost use Rattle.std.specs.FinMap as finmap;
+ghost use Rattle.std.specs.Ordering.{is_lt};
+ghost use Rattle.term_core.specs.declared.term.Term.{Term as Terms};
+ghost use Rattle.term_core.specs.declared.term.Triple.{Triple as Triples};
+ghost use Rattle.term_core.specs.declared.pattern.IdTriple.{IdTriple as Ids};
+ghost use Rattle.term_core.specs.Ids.{id_cmp};
+ghost use Rattle.sage_outside.specs.Causes.{Rose};
+ghost use Rattle.sage_outside.specs.Blocks.{HasRead, Tells, block_at};
+ghost use Rattle.sparql_tree.specs.Bgp.{pattern_of};
+ghost use Rattle.plan_tree.specs.Trace.{range as agreeing};
+ghost use Rattle.term_dict.specs.Layout.{Reads, term_at, longest_in};
+ghost use Rattle.term_dict.specs.Ranks.{IsRank, IsGap};
+ghost use Rattle.btree_scan.specs.Cuts.{IsRange};
+ghost use Rattle.btree_scan.specs.Entries.{entry_at};
+ghost use Rattle.triple_table.specs.Table.{IsTable, IsBelow, IsFound};
+ghost use Rattle.triple_table.specs.Keys.{order_of, key_of, keys_by};
+ghost use Rattle.store_image.specs.declared.header.Header.{Header as Headers};
+ghost use Rattle.store_image.specs.Holds.{Holds};
+ghost use Rattle.store_image.specs.Header.{IsHeader, dict_of, tree_of};
+ghost use Rattle.triple_store.specs.Stores.{View, IsOpened, IsKept, IsShown, IsBroken, IsStoreOf};
+ghost use Rattle.triple_store.specs.Entries.{ReadsEntry, HasEntry, triple_at};
+
+use crate::list::{key_in, named};
+use btree_scan::{Prefix, entry, lower_bound, range};
+use sage_outside::{Blocks, ReadFault, StoreFault};
+use std::alloc::Global;
+use std::marker::Model;
+use store_image::Header;
+use term_core::{IdTriple, Memory, Pattern, Term};
+
+#[derive(Drop)]
+pub struct Store<B: Blocks> {
+    blocks: B,
+    header: Header,
+}
+
+impl<B: Blocks> Model for Store<B> {
+    ghost Value = { View };
+
+    ghost view = { λ s. record { header = s.header; device = B.device s.blocks } };
+
+    ghost invariant = { λ s. IsOpened s.header (B.device s.blocks).count };
+}
+
+/// Why blocks were not opened as a store.
+#[derive(Clone, Copy, Debug, PartialEq, Eq)]
+pub enum OpenFault {
+    /// The first block is no header of a file of so many blocks.
+    NotAStore,
+    /// The first block could not be read.
+    Blocks,
+    /// The block does not agree with its tag. Files of format 0 have no tags.
+    Damaged { block: u32 },
+    /// The allocator had no room.
+    Memory,
+}
+
+/// Blocks that were not opened, given back.
+#[derive(Drop)]
+pub struct Unopened<B: Blocks> {
+    pub fault: OpenFault,
+    pub blocks: B,
+}
+
+/// What the header of a store tells.
+#[derive(Clone, Copy, Debug, PartialEq, Eq)]
+pub struct Info {
+    pub format: u8,
+    pub terms: u32,
+    pub triples: u32,
+    pub longest: u32,
+    pub blocks: u32,
+}
+
+/// The header that a first block of `count` blocks tells.
+fn header_in(block: &[u8; 4096], count: u32) -> Result<Header, OpenFault>
+    ensures is { IfOk result (λ h. IsHeader block.now count h) }
+    ensures not_a_store { IfErr result (λ fault. (fault ≡ OpenFault.NotAStore) × ((h : Headers) → IsHeader block.now count h → ⊥)) }
+{
+    match Header::read(block, count) {
+        Some(header) => Ok(header),
+        None => Err(OpenFault::NotAStore),
+    }
+}
+
+/// The header of blocks.
+fn header_of<B: Blocks>(blocks: &mut B) -> Result<Header, OpenFault>
+    ensures read { HasRead (B.device blocks.old) (B.device blocks.new) 1 }
+    ensures opened { IfOk result (λ h. IsOpened h (B.device blocks.old).count) }
+    ensures header { (image : List ℕ) → Tells (B.device blocks.old).image image
+        → IfOk result (λ h. IsHeader (block_at 0 image) (B.device blocks.old).count h) }
+    ensures not_a_store { (image : List ℕ) → Tells (B.device blocks.old).image image
+        → result ≡ Err OpenFault.NotAStore → (h : Headers) → IsHeader (block_at 0 image) (B.device blocks.old).count h → ⊥ }
+    ensures failed { result ≡ Err OpenFault.Blocks → Rose (B.device blocks.old).faults (B.device blocks.new).faults }
+    ensures causes { IfErr result (λ fault. (fault ≡ OpenFault.NotAStore) ⊎ (fault ≡ OpenFault.Blocks)) }
+    ensures none { (B.device blocks.old).count ≡ 0
+        → (result ≡ Err OpenFault.NotAStore) × (B.device blocks.new ≡ B.device blocks.old) }
+{
+    let count = blocks.blocks();
+    if count == 0 {
+        return Err(OpenFault::NotAStore);
+    }
+    let mut block = [0; 4096];
+    match blocks.read_block(0, &mut block) {
+        Ok(()) => header_in(&block, count),
+        Err(_) => Err(OpenFault::Blocks),
+    }
+}
+
+impl<B: Blocks> Store<B> {
+    /// Opens the blocks as a store. The first block alone is read; where there is none, nothing is.
+    ///
+    /// `NotAStore` comes exactly where the first block is no header of a file of so many blocks,
+    /// also where there is no block at all; so blocks that hold data are a store of these data.
+    /// `Blocks` comes only where the read failed. `Damaged` and `Memory` never come. The blocks are
+    /// given back with each.
+    pub fn open(blocks: B) -> Result<Store<B>, Unopened<B>>
+        ensures opened { IfOk result (λ s. HasRead (B.device blocks) s.device 1) }
+        ensures given_back { IfErr result (λ u. HasRead (B.device blocks) (B.device u.blocks) 1) }
+        ensures header { (image : List ℕ) → Tells (B.device blocks).image image
+            → IfOk result (λ s. IsHeader (block_at 0 image) (B.device blocks).count s.header) }
+        ensures not_a_store { (image : List ℕ) → Tells (B.device blocks).image image
+            → IfErr result (λ u. u.fault ≡ OpenFault.NotAStore → (h : Headers) → IsHeader (block_at 0 image) (B.device blocks).count h → ⊥) }
+        ensures failed { IfErr result (λ u. u.fault ≡ OpenFault.Blocks → Rose (B.device blocks).faults (B.device u.blocks).faults) }
+        ensures holds { (L : List Triples) (image : List ℕ) → Tells (B.device blocks).image image → Holds L image
+            → MatchResult result (λ s. IsStoreOf s L) (λ u. u.fault ≡ OpenFault.Blocks) }
+        ensures causes { IfErr result (λ u. (u.fault ≡ OpenFault.NotAStore) ⊎ (u.fault ≡ OpenFault.Blocks)) }
+        ensures none { (B.device blocks).count ≡ 0
+            → MatchResult result (λ _. ⊥) (λ u. (u.fault ≡ OpenFault.NotAStore) × (B.device u.blocks ≡ B.device blocks)) }
+    {
+        let mut blocks = blocks;
+        match header_of(&mut blocks) {
+            Ok(header) => Ok(Store { blocks, header }),
+            Err(fault) => Err(Unopened { fault, blocks }),
+        }
+    }
+
+    /// The term of that rank. Memory is taken for its record and for the term.
+    ///
+    /// `Damaged` comes exactly where the two numbers of the record or the record are not well
+    /// formed, and names the block in which the broken one begins. `Blocks` comes only where a read
+    /// failed.
+    #[tactic(auto, using(crate::proofs::Opened::dict_lies))]
+    pub fn term(&mut self, alloc: Global, id: u32) -> Result<Term, StoreFault>
+        requires within { id < self.old.header.terms }
+        ensures kept { IsKept self.old self.new }
+        ensures cost { HasRead self.old.device self.new.device (4 + (dict_of self.old.header).bytes / 4080) }
+        ensures few_reads { (image : List ℕ) → Tells self.old.device.image image
+            → self.new.device.reads ≤ self.old.device.reads + (4 + longest_in (dict_of self.old.header) image / 4080) }
+        ensures failed { result ≡ Err StoreFault.Blocks → Rose self.old.device.faults self.new.device.faults }
+        ensures read { (image : List ℕ) → Tells self.old.device.image image
+            → Reads (λ t. t) result (term_at (dict_of self.old.header) id image) }
+        ensures found { (terms : List Terms) (ids : List Ids) → IsShown self.old terms ids
+            → IfOk result (λ t. slice_get terms id ≡ Some t) }
+        ensures whole { (terms : List Terms) (ids : List Ids) (block : ℕ) → IsShown self.old terms ids
+            → result ≡ Err (StoreFault.Damaged block) → ⊥ }
+    {
+        let dict = self.header.dict();
+        dict.term(alloc, &mut self.blocks, id)
+    }
+
+    /// The rank of the term, or `None` where the data lack it. Memory is taken for one record and
+    /// one term at a time.
+    ///
+    /// `Damaged` names the block in which a broken number or record begins that the search came
+    /// upon. `Blocks` comes only where a read failed.
+    #[tactic(auto, using(crate::proofs::Opened::dict_lies))]
+    pub fn id_of(&mut self, alloc: Global, t: &Term) -> Result<Option<u32>, StoreFault>
+        ensures kept { IsKept self.old self.new }
+        ensures cost { HasRead self.old.device self.new.device (32 * (4 + (dict_of self.old.header).bytes / 4080)) }
+        ensures few_reads { (image : List ℕ) → Tells self.old.device.image image
+            → self.new.device.reads ≤ self.old.device.reads + 25 * (4 + longest_in (dict_of self.old.header) image / 4080) }
+        ensures failed { result ≡ Err StoreFault.Blocks → Rose self.old.device.faults self.new.device.faults }
+        ensures there { (image : List ℕ) (k : ℕ) → Tells self.old.device.image image
+            → result ≡ Ok (Some k)
+            → (k < self.old.header.terms) × (term_at (dict_of self.old.header) k image ≡ Ok t.now) }
+        ensures absent { (image : List ℕ) → Tells self.old.device.image image
+            → result ≡ Ok None → IsGap (dict_of self.old.header) t.now image }
+        ensures damaged { (image : List ℕ) (block : ℕ) → Tells self.old.device.image image
+            → result ≡ Err (StoreFault.Damaged block) → IsBroken self.old.header image block }
+        ensures found { (terms : List Terms) (ids : List Ids) → IsShown self.old terms ids
+            → IfOk result (IsRank terms t.now) }
+        ensures whole { (terms : List Terms) (ids : List Ids) (block : ℕ) → IsShown self.old terms ids
+            → result ≡ Err (StoreFault.Damaged block) → ⊥ }
+    {
+        let dict = self.header.dict();
+        dict.id_of(alloc, &mut self.blocks, t)
+    }
+
+    /// Whether the data have that triple of ranks: a search in the list by subject. At most 46
+    /// blocks are read.
+    ///
+    /// `Blocks` comes only where a read failed; `Damaged` never.
+    pub fn has(&mut self, t: &IdTriple) -> Result<bool, ReadFault>
+        ensures kept { IsKept self.old self.new }
+        ensures cost { HasRead self.old.device self.new.device 46 }
+        ensures failed { result ≡ Err ReadFault.Blocks → Rose self.old.device.faults self.new.device.faults }
+        ensures there { (image : List ℕ) → Tells self.old.device.image image → result ≡ Ok true
+            → (place : ℕ) × HasEntry self.old.header 0 t.now image place }
+        ensures found { (terms : List Terms) (ids : List Ids) → IsShown self.old terms ids
+            → IfOk result (λ b. IsTrue b ↔ Contains ids t.now) }
+        ensures whole { (block : ℕ) → result ≡ Err (ReadFault.Damaged block) → ⊥ }
+    {
+        Ok(self.place_in(0, t)?.is_some())
+    }
+
+    /// The name of the data, as the header tells it.
+    pub fn data_id(&self) -> &[u8; 32]
+        ensures { result.now ≡ self.now.header.data_id }
+    {
+        &self.header.data_id
+    }
+
+    /// What the header tells, of format 0. Nothing is read.
+    pub fn info(&self) -> Info
+        ensures { result ≡ record { format = 0; terms = self.now.header.terms; triples = self.now.header.triples; longest = self.now.header.longest; blocks = self.now.header.blocks } }
+    {
+        Info {
+            format: 0,
+            terms: self.header.terms,
+            triples: self.header.triples,
+            longest: self.header.longest,
+            blocks: self.header.blocks,
+        }
+    }
+
+    /// How many triples of the data have keys below that key, in the order of that number: 0 by
+    /// subject, predicate and object, 1 by predicate, object and subject, 2 by object, subject and
+    /// predicate. The key is given as a triple.
+    ///
+    /// `Blocks` comes only where a read failed; `Damaged` never. At most 44 blocks are read.
+    #[tactic(auto, using(crate::proofs::Opened::list_lies))]
+    pub fn lower_bound(&mut self, order: u8, key: &IdTriple) -> Result<u32, ReadFault>
+        requires order { order ≤ 2 }
+        ensures kept { IsKept self.old self.new }
+        ensures cost { HasRead self.old.device self.new.device 44 }
+        ensures failed { result ≡ Err ReadFault.Blocks → Rose self.old.device.faults self.new.device.faults }
+        ensures within { IfOk result (λ n. n ≤ self.old.header.triples) }
+        ensures found { (terms : List Terms) (ids : List Ids) → IsShown self.old terms ids
+            → IfOk result (λ n. n ≡ count_by (λ k. is_lt (id_cmp k (key_of (order_of order) key.now))) (keys_by (order_of order) ids)) }
+        ensures whole { (block : ℕ) → result ≡ Err (ReadFault.Damaged block) → ⊥ }
+    {
+        let list = self.header.tree(order);
+        lower_bound(&list, &mut self.blocks, &key_in(order, key))
+    }
+
+    /// The first place of the triples whose keys in that order begin with the prefix, and the place
+    /// behind the last of them. Both are the same where there are none.
+    ///
+    /// `Blocks` comes only where a read failed; `Damaged` never. At most 88 blocks are read.
+    #[tactic(auto, using(crate::proofs::Opened::list_lies))]
+    pub fn range(&mut self, order: u8, prefix: &Prefix) -> Result<(u32, u32), ReadFault>
+        requires order { order ≤ 2 }
+        requires len { prefix.now.len ≤ 3 }
+        ensures kept { IsKept self.old self.new }
+        ensures cost { HasRead self.old.device self.new.device 88 }
+        ensures failed { result ≡ Err ReadFault.Blocks → Rose self.old.device.faults self.new.device.faults }
+        ensures within { IfOk result (λ x. (x.0 ≤ x.1) × (x.1 ≤ self.old.header.triples)) }
+        ensures found { (terms : List Terms) (ids : List Ids) → IsShown self.old terms ids
+            → IfOk result (λ x. IsRange prefix.now (keys_by (order_of order) ids) x.0 x.1) }
+        ensures whole { (block : ℕ) → result ≡ Err (ReadFault.Damaged block) → ⊥ }
+    {
+        let list = self.header.tree(order);
+        range(&list, &mut self.blocks, prefix)
+    }
+
+    /// The triple at a place of that order, each term by its rank.
+    ///
+    /// `Blocks` comes only where a read failed. `Damaged` comes exactly where an id of the entry is
+    /// no term's, and names the block in which the first such id begins. At most two blocks are
+    /// read.
+    #[tactic(auto, using(crate::proofs::Opened::list_lies))]
+    pub fn entry(&mut self, order: u8, place: u32) -> Result<IdTriple, ReadFault>
+        requires order { order ≤ 2 }
+        requires within { place < self.old.header.triples }
+        ensures kept { IsKept self.old self.new }
+        ensures cost { HasRead self.old.device self.new.device 2 }
+        ensures failed { result ≡ Err ReadFault.Blocks → Rose self.old.device.faults self.new.device.faults }
+        ensures named { IfOk result (λ t. IsBelow self.old.header.terms t) }
+        ensures read { (image : List ℕ) → Tells self.old.device.image image
+            → ReadsEntry result (triple_at self.old.header order place image) }
+        ensures found { (terms : List Terms) (ids : List Ids) → IsShown self.old terms ids
+            → IfOk result (λ t. slice_get (keys_by (order_of order) ids) place ≡ Some (key_of (order_of order) t)) }
+        ensures whole { (terms : List Terms) (ids : List Ids) (block : ℕ) → IsShown self.old terms ids
+            → result ≡ Err (ReadFault.Damaged block) → ⊥ }
+    {
+        let list = self.header.tree(order);
+        let key = entry(&list, &mut self.blocks, place)?;
+        named(order, self.header.terms, &list, place, &key)
+    }
+
+    /// The key at a place of that order.
+    #[tactic(auto, using(crate::proofs::Opened::list_lies))]
+    fn key_at(&mut self, order: u8, place: u32) -> Result<IdTriple, ReadFault>
+        requires order { order ≤ 2 }
+        requires within { place < self.old.header.triples }
+        ensures kept { IsKept self.old self.new }
+        ensures cost { HasRead self.old.device self.new.device 2 }
+        ensures failed { result ≡ Err ReadFault.Blocks → Rose self.old.device.faults self.new.device.faults }
+        ensures read { (image : List ℕ) → Tells self.old.device.image image
+            → IfOk result (λ key. key ≡ entry_at (tree_of self.old.header order) place image) }
+        ensures found { (terms : List Terms) (ids : List Ids) → IsShown self.old terms ids
+            → IfOk result (λ key. slice_get (keys_by (order_of order) ids) place ≡ Some key) }
+        ensures whole { (block : ℕ) → result ≡ Err (ReadFault.Damaged block) → ⊥ }
+    {
+        let list = self.header.tree(order);
+        entry(&list, &mut self.blocks, place)
+    }
+
+    /// The place of the triple in an order's list, or `None` where it is not there.
+    pub(crate) fn place_in(&mut self, order: u8, t: &IdTriple) -> Result<Option<u32>, ReadFault>
+        requires order { order ≤ 2 }
+        ensures kept { IsKept self.old self.new }
+        ensures cost { HasRead self.old.device self.new.device 46 }
+        ensures failed { result ≡ Err ReadFault.Blocks → Rose self.old.device.faults self.new.device.faults }
+        ensures there { (image : List ℕ) (place : ℕ) → Tells self.old.device.image image → result ≡ Ok (Some place)
+            → HasEntry self.old.header order t.now image place }
+        ensures found { (terms : List Terms) (ids : List Ids) → IsShown self.old terms ids
+            → IfOk result (IsFound (keys_by (order_of order) ids) (key_of (order_of order) t.now)) }
+        ensures whole { (block : ℕ) → result ≡ Err (ReadFault.Damaged block) → ⊥ }
+    {
+        let place = self.lower_bound(order, t)?;
+        if place >= self.header.triples {
+            return Ok(None);
+        }
+        let key = self.key_at(order, place)?;
+        if key == key_in(order, t) {
+            Ok(Some(place))
+        } else {
+            Ok(None)
+        }
+    }
+
+    /// The blocks, with the counts as they stand.
+    pub fn close(self) -> B
+        ensures { B.device result ≡ self.device }
+    {
+        self.blocks
+    }
+}
