@@ -14,3 +14,4 @@ pub mod QueryLaws
 pub mod QueryComplete
 pub mod Names
 pub mod Spelled
+pub mod Texts

@@ -1,5 +1,5 @@
 -- Breaches of the rules on the scope of variables and labels, each by the name that it is at, in text order.
-use Rattle.std.specs.Prelude.{ℕ, Bool, true, false, not, ◌&&◌, ◌||◌, if◌then◌else◌, List, [], ◌∷◌, ◌++◌, map, filter, flat_map, Option, Some, None}
+use Rattle.std.specs.Prelude.{Bool, true, false, not, ◌&&◌, ◌||◌, if◌then◌else◌, List, [], ◌∷◌, ◌++◌, map, filter, flat_map, Option, Some, None}
 use Rattle.std.specs.List.{list_any}
 use Rattle.term_core.specs.Mappings.{Name, has_name, same_name}
 use Rattle.sparql_tree.specs.Bgp.{label_name}

@@ -17,5 +17,6 @@ pub mod QueryReading
 pub mod Written
 pub mod Counts
 pub mod Refusals
+pub mod Trees
 pub mod Scopes
 pub mod Breaches

@@ -9,7 +9,9 @@ pub mod law;
 mod queries;
 mod read;
 mod terms;
+mod text;
 mod triples;
 mod values;
 
 pub use read::read_symbols;
+pub use text::read_tree;
