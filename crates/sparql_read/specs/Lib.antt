@@ -18,5 +18,3 @@ pub mod Written
 pub mod Counts
 pub mod Refusals
 pub mod Trees
-pub mod Scopes
-pub mod Breaches
