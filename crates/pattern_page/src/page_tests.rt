@@ -90,14 +90,7 @@ fn follows_pages_of_one_step(rt: HostRuntime) -> Result<(), Fail> {
     let names = names(alloc)?;
     let mut out = Vec::new(alloc);
     push_header(&mut out, names.as_slice())?;
-    let counts = follow_pages(
-        alloc,
-        &mut store,
-        &part,
-        names.as_slice(),
-        &[1],
-        &mut out,
-    );
+    let counts = follow_pages(alloc, &mut store, &part, names.as_slice(), &[1], &mut out);
     let counts = given(counts)?;
     assert_eq!(rt;
         counts,

@@ -33,13 +33,16 @@ returns-in_err-give-clause-pages g c = λ D pattern h.
     (c.give.ensures.page D pattern (still_part D pattern c.args.store.now c.pages.store c.args.part.now c.pages.invariant.0 h) walked.begins few))
 
 pub pages-preserved : goal.pages-preserved
-pages-preserved g c = (kept_twice c.args.store.now c.pages.store c.give.new.store c.pages.invariant.0 c.give.ensures.kept, λ D pattern h.
-    let walked = c.pages.invariant.1 D pattern h in
-    let part = seen c.args.part.now h.terms h.ids in
-    let few = counted_few D pattern part h.is_of c.args.quanta.now c.requires.some c.args.names.now c.pages.page c.pages.walk c.args.out.now.items c.pages.out.items walked in
-    let given = c.in_ok-give.ensures.page D pattern (still_part D pattern c.args.store.now c.pages.store c.args.part.now c.pages.invariant.0 h) walked.begins few in
-    walked_more D pattern part h.is_of c.args.quanta.now c.requires.some c.args.names.now c.pages.page c.pages.walk c.give.new.walk c.args.out.now.items c.pages.out.items c.give.new.out.items c.in_ok-give.field-0
-    walked (paged_at D pattern part h.is_of c.args.quanta.now c.requires.some c.args.names.now c.pages.page _ _ _ _ _ _ c.quantum_of-quantum.ensures.walked given) c.if-not-branch.false)
+pages-preserved g c = (
+  kept_twice c.args.store.now c.pages.store c.give.new.store c.pages.invariant.0 c.give.ensures.kept,
+  λ D pattern h.
+      let walked = c.pages.invariant.1 D pattern h in
+      let part = seen c.args.part.now h.terms h.ids in
+      let few = counted_few D pattern part h.is_of c.args.quanta.now c.requires.some c.args.names.now c.pages.page c.pages.walk c.args.out.now.items c.pages.out.items walked in
+      let given = c.in_ok-give.ensures.page D pattern (still_part D pattern c.args.store.now c.pages.store c.args.part.now c.pages.invariant.0 h) walked.begins few in
+      walked_more D pattern part h.is_of c.args.quanta.now c.requires.some c.args.names.now c.pages.page c.pages.walk c.give.new.walk c.args.out.now.items c.pages.out.items c.give.new.out.items c.in_ok-give.field-0
+      walked (paged_at D pattern part h.is_of c.args.quanta.now c.requires.some c.args.names.now c.pages.page _ _ _ _ _ _ c.quantum_of-quantum.ensures.walked given) c.if-not-branch.false,
+)
 
 pub returns-clause-kept : goal.returns-clause-kept
 returns-clause-kept g c =
