@@ -4,7 +4,7 @@ use crate::tsv::push_line;
 use crate::{
     Counts, Page, PageFault, Part, State, follow_pages, parse_state, push_header, push_state,
 };
-use sage_outside::NeverBlocks;
+use sage_outside::{Blocks, NeverBlocks};
 use std::alloc::Global;
 use std::test::Fail;
 use store_image::{have_short_terms, image};
@@ -54,11 +54,27 @@ fn open(file: &[u8]) -> Result<Store<NeverBlocks<'_>>, Fail> {
     }
 }
 
-fn given<T>(answer: Result<T, PageFault>) -> Result<T, Fail> {
-    match answer {
-        Ok(value) => Ok(value),
-        Err(_) => Err("refused")?,
-    }
+// All pages of one step, with a line for each row.
+fn follow<B: Blocks>(
+    alloc: Global,
+    store: &mut Store<B>,
+    pattern: &Pattern,
+    names: &[Text],
+    out: &mut Vec<u8>,
+) -> Result<Counts, PageFault> {
+    let part = Part::new(alloc, store, pattern)?;
+    follow_pages(alloc, store, &part, names, &[1], out)
+}
+
+// The page of one step from the bytes, or from the beginning.
+fn page_of<B: Blocks>(
+    alloc: Global,
+    store: &mut Store<B>,
+    pattern: &Pattern,
+    next: Option<&[u8]>,
+) -> Result<Page, PageFault> {
+    let part = Part::new(alloc, store, pattern)?;
+    part.page(alloc, store, next, 1)
 }
 
 fn pattern(alloc: Global, object: &str) -> Result<Pattern, TextFault> {
@@ -83,15 +99,13 @@ fn follows_pages_of_one_step(rt: HostRuntime) -> Result<(), Fail> {
     let file = file(alloc)?;
     let mut store = open(&file)?;
     let pattern = pattern(alloc, "y")?;
-    let part = match Part::new(alloc, &mut store, &pattern) {
-        Ok(part) => part,
-        Err(_) => Err("refused")?,
-    };
     let names = names(alloc)?;
     let mut out = Vec::new(alloc);
     push_header(&mut out, names.as_slice())?;
-    let counts = follow_pages(alloc, &mut store, &part, names.as_slice(), &[1], &mut out);
-    let counts = given(counts)?;
+    let counts = match follow(alloc, &mut store, &pattern, names.as_slice(), &mut out) {
+        Ok(counts) => counts,
+        Err(_) => Err("refused")?,
+    };
     assert_eq!(rt;
         counts,
         Counts {
@@ -109,13 +123,10 @@ fn page_at(alloc: Global, object: &str, next: Option<&[u8]>) -> Result<Option<Pa
     let file = file(alloc)?;
     let mut store = open(&file)?;
     let pattern = pattern(alloc, object)?;
-    let part = match Part::new(alloc, &mut store, &pattern) {
-        Ok(part) => part,
-        Err(_) => Err("refused")?,
-    };
-    match part.page(alloc, &mut store, next, 1) {
+    match page_of(alloc, &mut store, &pattern, next) {
+        Ok(page) => Ok(Some(page)),
         Err(PageFault::Plan) => Ok(None),
-        other => Ok(Some(given(other)?)),
+        Err(_) => Err("no page")?,
     }
 }
 
