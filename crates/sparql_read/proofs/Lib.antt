@@ -1,0 +1,17 @@
+pub mod Steps
+pub mod Turns
+pub mod RowTurns
+pub mod TermLaws
+pub mod ExprSound
+pub mod ExprShorter
+pub mod ExprEnds
+pub mod ExprComplete
+pub mod TripleLaws
+pub mod ValueLaws
+pub mod GroupLaws
+pub mod Counts
+pub mod QueryLaws
+pub mod QueryComplete
+pub mod Names
+pub mod Spelled
+pub mod Texts
