@@ -6,3 +6,5 @@ pub mod Exprs
 pub mod ExprTrees
 pub mod Groups
 pub mod GroupTrees
+pub mod Operators
+pub mod AlgebraTrees

@@ -1,6 +1,8 @@
-//! The algebra of SPARQL 1.1 and what its solutions in a data set are: definitions, and laws over them.
+//! Trees of queries and of the algebra of SPARQL 1.1, and what solutions in a data set are:
+//! definitions, and laws over them.
 #![tactic(auto)]
 
+mod algebra;
 mod expr;
 mod fault;
 mod group;
@@ -10,6 +12,7 @@ mod query;
 mod tests;
 mod words;
 
+pub use algebra::Algebra;
 pub use expr::{Expr, Factor, Signed};
 pub use fault::{QueryFault, Size};
 pub use group::{Element, Group};

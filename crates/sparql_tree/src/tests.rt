@@ -1,8 +1,8 @@
 //! What no clause says: that trees are made and copied where there is memory.
 
 use crate::{
-    AggregateKind, CompareOp, Element, Expr, Factor, Function, Group, GroupKey, OrderKey, Query,
-    SelectItem, Signed,
+    AggregateKind, Algebra, CompareOp, Element, Expr, Factor, Function, Group, GroupKey, OrderKey,
+    Query, SelectItem, Signed,
 };
 use std::alloc::Global;
 use std::test::Fail;
@@ -93,5 +93,33 @@ fn makes_each_part(rt: HostRuntime) -> Result<(), Fail> {
         offset: 0,
     };
     assert_eq!(rt; query.body.elements.len(), 7);
+    Ok(())
+}
+
+fn empty(alloc: Global) -> Algebra {
+    Algebra::Bgp(Items::new(alloc))
+}
+
+fn every_operator(alloc: Global) -> Result<Algebra, Memory> {
+    let table = Algebra::Table {
+        variables: Items::new(alloc),
+        rows: Items::new(alloc),
+    };
+    let joined = Algebra::join(alloc, empty(alloc), table)?;
+    let filtered = Algebra::filter(alloc, variable(alloc)?, joined)?;
+    let name = Text::from_str(alloc, "b")?;
+    let extended = Algebra::extend(alloc, filtered, name, variable(alloc)?)?;
+    let either = Algebra::union(alloc, extended, empty(alloc))?;
+    let without = Algebra::minus(alloc, either, empty(alloc))?;
+    Algebra::left_join(alloc, without, empty(alloc), Some(variable(alloc)?))
+}
+
+#[test]
+fn makes_each_operator(rt: HostRuntime) -> Result<(), Fail> {
+    let alloc = rt.alloc();
+    match every_operator(alloc)? {
+        Algebra::LeftJoin { condition, .. } => assert!(rt; condition.is_some()),
+        _ => assert!(rt; false, "not the same kind"),
+    }
     Ok(())
 }

@@ -1,5 +1,0 @@
-use Rattle.sparql_read.proofs.Spelled.{one_query}
-use Rattle.sparql_read.proofs.law.one_query.Goals as goal
-
-pub returns : goal.returns
-returns c = one_query

@@ -1,7 +1,0 @@
-use Rattle.std.proofs.Common.{◌≡◌, ◌-◌}
-use Rattle.sparql_read.specs.Parser.{repeat}
-use Rattle.sparql_read.specs.TripleReading as spec
-use Rattle.sparql_read.proofs.triples.property_rest.Given as goal
-
-abbrev pub invariant-loop-turn : goal.invariant-loop-turn
-invariant-loop-turn l = spec.property_rest l.subject l.fn.found l.fn.cursor ≡ repeat (spec.property_turn l.subject) (l._turn-end - l._turn) l.found l.cursor
