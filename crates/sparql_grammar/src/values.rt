@@ -12,7 +12,7 @@ use crate::terms::term;
 use sparql_symbol::Shape;
 use sparql_tree::Element;
 use std::alloc::Global;
-use term_core::{Items, Memory, Row, Term, Text};
+use term_core::{Items, Memory, Row, RowBuilder, Term, Text};
 
 /// A term, or none for `UNDEF`.
 #[tactic(auto, unfolding(crate::specs::ValueReading::cell))]
@@ -29,7 +29,12 @@ fn cell(alloc: Global, cursor: &mut Cursor<'_>) -> Result<Option<Term>, Fault>
 }
 
 /// Binds the name to the cell's term, if it has one.
-fn set_cell(alloc: Global, row: &mut Row, name: &Text, cell: Option<Term>) -> Result<(), Memory>
+fn set_cell(
+    alloc: Global,
+    row: &mut RowBuilder,
+    name: &Text,
+    cell: Option<Term>,
+) -> Result<(), Memory>
     ensures { IfOk result (λ done. row.new ≡ with_cell row.old name.now cell) }
 {
     match cell {
@@ -38,16 +43,16 @@ fn set_cell(alloc: Global, row: &mut Row, name: &Text, cell: Option<Term>) -> Re
     }
 }
 
-/// A cell for each of the variables.
+/// A cell for each of the variables. The time is that of a look-up in a tree for each.
 fn row(alloc: Global, cursor: &mut Cursor<'_>, variables: &[Text]) -> Result<Row, Fault>
     ensures { Reads same (spec.row variables.now cursor.old) result cursor.new }
 {
-    let mut row = Row::empty(alloc);
+    let mut row = RowBuilder::new(alloc);
     for name in variables {
         let found = cell(alloc, cursor)?;
         set_cell(alloc, &mut row, name, found)?;
     }
-    Ok(row)
+    Ok(row.build(alloc)?)
 }
 
 /// Rows of one variable, up to `}`.

@@ -6,4 +6,5 @@ pub mod Joined
 pub mod Entries
 pub mod Distinct
 pub mod Permuted
+mod Builders
 pub mod IdOrder

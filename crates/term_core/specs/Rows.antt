@@ -1,6 +1,9 @@
 -- A row is a finite map from names to terms (SPARQL 1.1, section 18.1.8), kept as entries in the byte order of the names.
-use Rattle.std.specs.Prelude.{◌≡◌, ℕ, ◌<◌, ◌≤◌, List, length, slice_set, Result, Ok, Err, insert, T}
-use Rattle.std.specs.FinMap.{put, is_sorted}
+use Rattle.std.specs.Prelude.{◌≡◌, ℕ, ◌<◌, ◌≤◌, List, map, length, slice_set, Result, Ok, Err, insert, T, string_bytes}
+use Rattle.std.specs.BTreeMap.{BTreeMap}
+use Rattle.std.specs.FinMap.{FinMap, from_entries, put, is_sorted}
+use Rattle.std.specs.Global.{Global}
+use Rattle.std.specs.declared.string.String.{String}
 use Rattle.term_core.specs.declared.term.Term.{Term}
 use Rattle.term_core.specs.Order.{bytes_cmp}
 
@@ -16,3 +19,11 @@ AreSorted es = T (is_sorted bytes_cmp es)
 abbrev pub IsPlace : Result ℕ ℕ → Entries → List ℕ → Type 0
 IsPlace (Ok at) es name = (at < length es) × ((v : Term) → put bytes_cmp name v es ≡ slice_set es at (name, v))
 IsPlace (Err at) es name = (at ≤ length es) × ((v : Term) → put bytes_cmp name v es ≡ insert es at (name, v))
+
+-- an entry by its name's bytes
+abbrev pub entry_of : String Global × Term → List ℕ × Term
+entry_of entry = (string_bytes entry.0, entry.1)
+
+-- the row of a tree of names
+abbrev pub row_of : BTreeMap (String Global) Term → FinMap bytes_cmp Term
+row_of terms = from_entries (map entry_of terms.entries)

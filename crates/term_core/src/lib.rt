@@ -7,6 +7,7 @@ mod items;
 mod law;
 mod pattern;
 mod row;
+mod row_builder;
 mod term;
 #[cfg(test)]
 mod tests;
@@ -22,6 +23,7 @@ pub use law::{
 };
 pub use pattern::{IdTriple, Pattern, Place};
 pub use row::Row;
+pub use row_builder::RowBuilder;
 pub use term::{NotATriple, Term, Triple, check_triple, compare, compare_is_total, size};
 pub use text::{Memory, Text, TextFault};
 pub use token::{Kind, Token};

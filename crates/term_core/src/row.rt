@@ -4,7 +4,7 @@ ghost use Rattle.std.specs.Prelude.{◌≡◌, OnOk, OnErr, IfOk, slice_get, opt
 ghost use Rattle.std.specs.Option.{option_copied};
 ghost use Rattle.std.specs.FinMap as map;
 ghost use Rattle.term_core.specs.Order.{bytes_cmp};
-ghost use Rattle.term_core.specs.Rows.{IsPlace};
+ghost use Rattle.term_core.specs.Rows.{AreSorted, IsPlace};
 
 use crate::{Memory, Term, Text};
 use std::alloc::Global;
@@ -36,6 +36,14 @@ impl Model for Row {
 }
 
 impl Row {
+    /// The row of entries that stand in the byte order of their names, each name once.
+    pub(crate) fn of_sorted(entries: Vec<(Text, Term)>) -> Row
+        requires { AreSorted entries.items }
+        ensures { result ≡ map.from_sorted entries.items }
+    {
+        Row { entries }
+    }
+
     /// The row that binds no name. It keeps the allocator, and takes memory from it only in `set`.
     pub fn empty(alloc: Global) -> Row
         ensures { result ≡ map.empty }

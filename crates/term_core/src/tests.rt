@@ -1,6 +1,6 @@
 use crate::{
-    IdTriple, Items, NotATriple, Pattern, Place, Row, Term, Text, TextFault, Triple, TryCopy,
-    check_triple, compare, is_pn, is_pn_base, is_pn_u, size,
+    IdTriple, Items, NotATriple, Pattern, Place, Row, RowBuilder, Term, Text, TextFault, Triple,
+    TryCopy, check_triple, compare, is_pn, is_pn_base, is_pn_u, size,
 };
 use std::alloc::Global;
 use std::cmp::Ordering;
@@ -135,6 +135,23 @@ fn rows_keep_the_last_term_of_a_name(rt: HostRuntime) -> Result<(), Fail> {
     assert_eq!(rt; first.0.as_str(), "a");
     assert_eq!(rt; first.1, &blank(alloc, "2")?);
     assert!(rt; copy.entry(2).is_none());
+    Ok(())
+}
+
+#[test]
+fn builds_rows_in_any_order(rt: HostRuntime) -> Result<(), Fail> {
+    let alloc = rt.alloc();
+    let mut builder = RowBuilder::new(alloc);
+    builder.set(text(alloc, "b")?, blank(alloc, "1")?)?;
+    builder.set(text(alloc, "c")?, blank(alloc, "2")?)?;
+    builder.set(text(alloc, "a")?, blank(alloc, "3")?)?;
+    builder.set(text(alloc, "b")?, blank(alloc, "4")?)?;
+    let row = builder.build(alloc)?;
+    assert_eq!(rt; row.entries().len(), 3);
+    assert_eq!(rt; row.get(b"b"), Some(&blank(alloc, "4")?));
+    let first = row.entry(0).ok_or("no entry")?;
+    assert_eq!(rt; first.0.as_str(), "a");
+    assert_eq!(rt; first.1, &blank(alloc, "3")?);
     Ok(())
 }
 

@@ -76,6 +76,14 @@ impl Text {
         Text { text }
     }
 
+    /// The string of the text, which is taken and not copied.
+    pub(crate) fn into_string(self) -> String
+        ensures { string_bytes result ≡ self }
+    {
+        let Text { text } = self;
+        text
+    }
+
     /// Copies a string slice into a text of its own.
     pub fn from_str(alloc: Global, text: &str) -> Result<Text, Memory>
         ensures { IfOk result (λ t. t ≡ text.now) }
