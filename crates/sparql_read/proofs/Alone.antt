@@ -1,5 +1,5 @@
 -- Expressions that are no variable alone.
-use Rattle.std.proofs.Common.{◌≡◌, Bool, false, refl}
+use Rattle.std.proofs.Common.{◌≡◌, false, refl}
 use Rattle.term_core.specs.Mappings.{Name}
 use Rattle.sparql_tree.specs.ExprTrees.{tree_of, aggregate_of}
 use Rattle.sparql_tree.specs.declared.expr.Expr.{Expr, None', Some'}

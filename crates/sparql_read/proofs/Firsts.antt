@@ -1,8 +1,6 @@
 -- The first of names.
-use Rattle.std.proofs.Common.{◌≡◌, ◌++◌, ◌∷◌, [], ℕ, Bool, true, false, List, Option, Some, None, refl, sym, ap, ◌∙◌}
-use Rattle.std.specs.Prelude.{map, filter, not, ◌||◌}
-use Rattle.std.proofs.lemmas.List.Folds.{list_any-append}
-use Rattle.term_core.specs.Mappings.{Name, has_name, same_name}
+use Rattle.std.proofs.Common.{◌≡◌, ◌++◌, ◌∷◌, [], List, Some, None, refl}
+use Rattle.term_core.specs.Mappings.{Name}
 use Rattle.sparql_read.specs.Breaches.{first_name}
 
 -- of the front, where it has one

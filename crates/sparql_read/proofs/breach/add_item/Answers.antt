@@ -1,4 +1,4 @@
-use Rattle.std.proofs.Common.{sym, subst}
+use Rattle.std.proofs.Common.{subst}
 use Rattle.sparql_grammar.specs.Written.{HasNames}
 use Rattle.sparql_read.specs.Breaches.{key_names}
 use Rattle.sparql_read.proofs.Named.{on_ok, allowed_more, variables_more}

@@ -1,4 +1,4 @@
-use Rattle.std.proofs.Common.{◌≡◌, ◌∙◌, IfOk, subst, ap, arith}
+use Rattle.std.proofs.Common.{◌≡◌, ◌∙◌, IfOk, subst, arith}
 use Rattle.std.specs.Prelude.{flat_map}
 use Rattle.std.proofs.lemmas.Grind.{common_steps}
 use Rattle.term_core.specs.Mappings.{has_name}

@@ -1,4 +1,4 @@
-use Rattle.std.proofs.Common.{◌≡◌, ◌∙◌, ◌++◌, IfOk, subst, ap, arith}
+use Rattle.std.proofs.Common.{◌≡◌, ◌∙◌, ◌++◌, IfOk, subst, arith}
 use Rattle.std.proofs.lemmas.Grind.{common_steps}
 use Rattle.term_core.specs.Mappings.{has_name}
 use Rattle.sparql_tree.specs.GroupTrees.{query_of}

@@ -1,9 +1,9 @@
-use Rattle.std.proofs.Common.{◌≡◌, ◌≤◌, ◌+◌, drop, true, Some, None, length, sym, ap, ◌∙◌, arith}
+use Rattle.std.proofs.Common.{◌≡◌, ◌≤◌, ◌+◌, drop, true, Some, length, sym, ap, ◌∙◌, arith}
 use Rattle.std.specs.BTreeMap.{get_by_text}
 use Rattle.std.proofs.lemmas.Grind.{common_steps}
 use Rattle.sparql_read.specs.Numbers.{is_other}
 use Rattle.sparql_read.specs.declared.marks.Mark.TheVariants as marks
-use Rattle.sparql_read.proofs.Judged.{judged, judged_is, at_mark, at_other, at_end}
+use Rattle.sparql_read.proofs.Judged.{judged_is, at_mark, at_other, at_end}
 use Rattle.sparql_read.proofs.judge.first_mark.Goals as goal
 
 pub returns-in-Again : goal.returns-in-Again
