@@ -2,15 +2,21 @@
 #![tactic(auto)]
 
 mod cursor;
+#[cfg(test)]
+mod expression_tests;
 mod exprs;
 mod fault;
+#[cfg(test)]
+mod group_tests;
 mod groups;
 pub mod law;
 mod queries;
-mod read;
-mod terms;
 #[cfg(test)]
-mod tests;
+mod query_tests;
+mod read;
+#[cfg(test)]
+mod showing;
+mod terms;
 mod text;
 mod triples;
 mod values;
