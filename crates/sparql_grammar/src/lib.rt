@@ -2,20 +2,12 @@
 #![tactic(auto)]
 
 mod cursor;
-#[cfg(test)]
-mod expression_tests;
 mod exprs;
 mod fault;
-#[cfg(test)]
-mod group_tests;
 mod groups;
 pub mod law;
 mod queries;
-#[cfg(test)]
-mod query_tests;
 mod read;
-#[cfg(test)]
-mod showing;
 mod terms;
 mod text;
 mod triples;

@@ -1,8 +1,9 @@
 //! Expressions in a FILTER, and the trees that they spell: a text a line, and its tree behind an arrow;
 //! without an arrow it is no query.
 
-use crate::showing::first_difference;
-use std::alloc::{AllocError, Global};
+use crate::showing::expect_trees;
+use std::alloc::Global;
+use std::test::Fail;
 
 /// Operators and their levels.
 const OPERATORS: &str = "?a || ?b && ?c => (|| ?a (&& ?b ?c))
@@ -223,9 +224,9 @@ ABS(SUM(?a))
 <a>
 p:a";
 
-/// The first of the lines whose text is read as another tree in a FILTER, or as none.
-fn difference(alloc: Global, lines: &str) -> Result<String, AllocError> {
-    first_difference(
+/// Fails where a line is read as another tree in a FILTER, or as none.
+fn expect_lines(alloc: Global, lines: &str) -> Result<(), Fail> {
+    expect_trees(
         alloc,
         lines,
         ("SELECT * { FILTER(", ") }"),
@@ -234,26 +235,22 @@ fn difference(alloc: Global, lines: &str) -> Result<String, AllocError> {
 }
 
 #[test]
-fn reads_operators(rt: HostRuntime) -> Result<(), AllocError> {
-    assert_eq!(rt; difference(rt.alloc(), OPERATORS)?.as_str(), "");
-    Ok(())
+fn reads_operators(rt: HostRuntime) -> Result<(), Fail> {
+    expect_lines(rt.alloc(), OPERATORS)
 }
 
 #[test]
-fn reads_signs(rt: HostRuntime) -> Result<(), AllocError> {
-    assert_eq!(rt; difference(rt.alloc(), SIGNS)?.as_str(), "");
-    Ok(())
+fn reads_signs(rt: HostRuntime) -> Result<(), Fail> {
+    expect_lines(rt.alloc(), SIGNS)
 }
 
 #[test]
-fn reads_calls_and_terms(rt: HostRuntime) -> Result<(), AllocError> {
-    assert_eq!(rt; difference(rt.alloc(), CALLS)?.as_str(), "");
-    Ok(())
+fn reads_calls_and_terms(rt: HostRuntime) -> Result<(), Fail> {
+    expect_lines(rt.alloc(), CALLS)
 }
 
 #[test]
-fn refuses_expressions(rt: HostRuntime) -> Result<(), AllocError> {
-    assert_eq!(rt; difference(rt.alloc(), NO_OPERATORS)?.as_str(), "");
-    assert_eq!(rt; difference(rt.alloc(), NO_CALLS)?.as_str(), "");
-    Ok(())
+fn refuses_expressions(rt: HostRuntime) -> Result<(), Fail> {
+    expect_lines(rt.alloc(), NO_OPERATORS)?;
+    expect_lines(rt.alloc(), NO_CALLS)
 }

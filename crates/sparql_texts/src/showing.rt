@@ -1,10 +1,11 @@
 //! What a text is read as, as a text: its tree, or why it is refused.
 
-use crate::read_tree;
+use sparql_grammar::read_tree;
 use sparql_tree::{
     Element, Expr, Factor, Group, GroupKey, OrderKey, Query, QueryFault, SelectItem, Signed, Size,
 };
 use std::alloc::{AllocError, Global};
+use std::test::Fail;
 use term_core::{Pattern, Place, Row, Term, Text};
 
 const XSD: &str = "http://www.w3.org/2001/XMLSchema#";
@@ -343,15 +344,22 @@ fn between(alloc: Global, around: (&str, &str), inner: &str) -> Result<String, A
     Ok(whole)
 }
 
-/// The first of the lines whose text, between two others, is not read as the tree behind its arrow, between
-/// two others, with what it is read as. A line without an arrow is to be no query. It is empty where each
-/// line is read so.
-pub fn first_difference(
+/// Fails, with what is found in the line, where that is not what is expected of it.
+pub fn expect(alloc: Global, line: &str, found: &str, expected: &str) -> Result<(), Fail> {
+    if found == expected {
+        return Ok(());
+    }
+    Err(between(alloc, (line, found), " is read as ")?)?
+}
+
+/// Fails at the first of the lines whose text, between two others, is not read as the tree behind its
+/// arrow, between two others. A line without an arrow is to be no query.
+pub fn expect_trees(
     alloc: Global,
     lines: &str,
     around: (&str, &str),
     around_tree: (&str, &str),
-) -> Result<String, AllocError> {
+) -> Result<(), Fail> {
     for line in lines.lines() {
         let (text, tree) = match line.split_once(" => ") {
             Some((text, tree)) => (text, between(alloc, around_tree, tree)?),
@@ -359,9 +367,7 @@ pub fn first_difference(
         };
         let whole = between(alloc, around, text)?;
         let found = shown(alloc, whole.as_bytes())?;
-        if found.as_str() != tree.as_str() {
-            return between(alloc, (line, found.as_str()), " is read as ");
-        }
+        expect(alloc, line, found.as_str(), tree.as_str())?;
     }
-    Ok(String::new(alloc))
+    Ok(())
 }

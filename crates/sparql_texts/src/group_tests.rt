@@ -1,8 +1,9 @@
 //! Groups, and the trees that they spell: a text a line, and its tree behind an arrow; without an arrow
 //! it is no query.
 
-use crate::showing::first_difference;
-use std::alloc::{AllocError, Global};
+use crate::showing::expect_trees;
+use std::alloc::Global;
+use std::test::Fail;
 
 /// Triple patterns.
 const TRIPLES: &str = "{ ?s ?p ?o } => { (bgp [ ?s ?p ?o]) }
@@ -157,21 +158,19 @@ const NO_GROUPS: &str = "{
 { VALUES () { (1) } }
 { VALUES () { 1 } }";
 
-/// The first of the lines whose text is read as another tree behind `SELECT *`, or as none.
-fn difference(alloc: Global, lines: &str) -> Result<String, AllocError> {
-    first_difference(alloc, lines, ("SELECT * ", ""), ("* ", ""))
+/// Fails where a line is read as another tree behind `SELECT *`, or as none.
+fn expect_lines(alloc: Global, lines: &str) -> Result<(), Fail> {
+    expect_trees(alloc, lines, ("SELECT * ", ""), ("* ", ""))
 }
 
 #[test]
-fn reads_groups(rt: HostRuntime) -> Result<(), AllocError> {
-    assert_eq!(rt; difference(rt.alloc(), TRIPLES)?.as_str(), "");
-    assert_eq!(rt; difference(rt.alloc(), GROUPS)?.as_str(), "");
-    Ok(())
+fn reads_groups(rt: HostRuntime) -> Result<(), Fail> {
+    expect_lines(rt.alloc(), TRIPLES)?;
+    expect_lines(rt.alloc(), GROUPS)
 }
 
 #[test]
-fn refuses_groups(rt: HostRuntime) -> Result<(), AllocError> {
-    assert_eq!(rt; difference(rt.alloc(), NO_TRIPLES)?.as_str(), "");
-    assert_eq!(rt; difference(rt.alloc(), NO_GROUPS)?.as_str(), "");
-    Ok(())
+fn refuses_groups(rt: HostRuntime) -> Result<(), Fail> {
+    expect_lines(rt.alloc(), NO_TRIPLES)?;
+    expect_lines(rt.alloc(), NO_GROUPS)
 }

@@ -1,9 +1,10 @@
 //! Queries, the trees that they spell, and refusals: a text a line, and its tree or its refusal behind an
 //! arrow; without an arrow it is no query.
 
-use crate::read_tree;
-use crate::showing::{first_difference, shown, shown_fault};
+use crate::showing::{expect, expect_trees, shown, shown_fault};
+use sparql_grammar::read_tree;
 use std::alloc::{AllocError, Global};
+use std::test::Fail;
 
 /// Items of a selection, and the aggregates that may stand there.
 const SELECTIONS: &str = "SELECT ?a {} => ?a { }
@@ -197,29 +198,26 @@ BASE <http://e/> SELECT * {} => !what BASE
 SELECT * {} LIMIT 18446744073709551616 => !what 18446744073709551616
 SELECT * {} OFFSET 18446744073709551616 => !what 18446744073709551616";
 
-/// The first of the lines whose text is read as another tree, or as none.
-fn difference(alloc: Global, lines: &str) -> Result<String, AllocError> {
-    first_difference(alloc, lines, ("", ""), ("", ""))
+/// Fails where a line is read as another tree, or as none.
+fn expect_lines(alloc: Global, lines: &str) -> Result<(), Fail> {
+    expect_trees(alloc, lines, ("", ""), ("", ""))
 }
 
 #[test]
-fn reads_queries(rt: HostRuntime) -> Result<(), AllocError> {
-    assert_eq!(rt; difference(rt.alloc(), SELECTIONS)?.as_str(), "");
-    assert_eq!(rt; difference(rt.alloc(), MODIFIERS)?.as_str(), "");
-    Ok(())
+fn reads_queries(rt: HostRuntime) -> Result<(), Fail> {
+    expect_lines(rt.alloc(), SELECTIONS)?;
+    expect_lines(rt.alloc(), MODIFIERS)
 }
 
 #[test]
-fn refuses_queries(rt: HostRuntime) -> Result<(), AllocError> {
-    assert_eq!(rt; difference(rt.alloc(), NO_SELECTIONS)?.as_str(), "");
-    assert_eq!(rt; difference(rt.alloc(), NO_MODIFIERS)?.as_str(), "");
-    Ok(())
+fn refuses_queries(rt: HostRuntime) -> Result<(), Fail> {
+    expect_lines(rt.alloc(), NO_SELECTIONS)?;
+    expect_lines(rt.alloc(), NO_MODIFIERS)
 }
 
 #[test]
-fn refuses_before_the_grammar(rt: HostRuntime) -> Result<(), AllocError> {
-    assert_eq!(rt; difference(rt.alloc(), REFUSALS)?.as_str(), "");
-    Ok(())
+fn refuses_before_the_grammar(rt: HostRuntime) -> Result<(), Fail> {
+    expect_lines(rt.alloc(), REFUSALS)
 }
 
 /// Texts, and what they are read as at 256 open groups and at 257: before the arrow the second and the
@@ -264,42 +262,57 @@ fn outcome(alloc: Global, text: &str) -> Result<String, AllocError> {
     }
 }
 
-/// What becomes of the text with its parts so many times, and once more.
-fn outcomes(alloc: Global, parts: &str, times: usize) -> Result<String, AllocError> {
-    let mut found = outcome(alloc, nested(alloc, parts, times)?.as_str())?;
+/// What becomes of the text with its parts as often as each of these says.
+fn outcomes(alloc: Global, parts: &str, times: (usize, usize)) -> Result<String, AllocError> {
+    let mut found = outcome(alloc, nested(alloc, parts, times.0)?.as_str())?;
     found.push(' ')?;
-    found.push_str(outcome(alloc, nested(alloc, parts, times + 1)?.as_str())?.as_str())?;
+    found.push_str(outcome(alloc, nested(alloc, parts, times.1)?.as_str())?.as_str())?;
     Ok(found)
 }
 
+/// Fails where the outcomes are others.
+fn expect_outcomes(
+    alloc: Global,
+    parts: &str,
+    times: (usize, usize),
+    expected: &str,
+) -> Result<(), Fail> {
+    expect(
+        alloc,
+        parts,
+        outcomes(alloc, parts, times)?.as_str(),
+        expected,
+    )
+}
+
 #[test]
-fn reads_to_the_limit_of_nesting(rt: HostRuntime) -> Result<(), AllocError> {
-    let alloc = rt.alloc();
+fn reads_to_the_limit_of_nesting(rt: HostRuntime) -> Result<(), Fail> {
     for line in NESTS.lines() {
         let (parts, expected) = line.split_once(" => ").unwrap_or((line, ""));
-        assert_eq!(rt; outcomes(alloc, parts, 254)?.as_str(), expected, "{line}");
+        expect_outcomes(rt.alloc(), parts, (254, 255), expected)?;
     }
     Ok(())
 }
 
 #[test]
-fn reads_to_the_limit_of_size(rt: HostRuntime) -> Result<(), AllocError> {
-    let alloc = rt.alloc();
-    assert_eq!(rt;
-        outcomes(alloc, "SELECT * {} #~ ~~~", 262_131)?.as_str(),
-        "read !text"
-    );
-    assert_eq!(rt;
-        outcomes(alloc, "` #~ ~~~", 262_141)?.as_str(),
-        "!lex 0 !text"
-    );
-    Ok(())
+fn reads_to_the_limit_of_size(rt: HostRuntime) -> Result<(), Fail> {
+    expect_outcomes(
+        rt.alloc(),
+        "SELECT * {} #~ ~~~",
+        (262_131, 262_132),
+        "read !text",
+    )?;
+    expect_outcomes(rt.alloc(), "` #~ ~~~", (262_141, 262_142), "!lex 0 !text")
 }
 
 #[test]
-fn reads_lines_and_refuses_bytes_that_are_no_text(rt: HostRuntime) -> Result<(), AllocError> {
-    let alloc = rt.alloc();
-    assert_eq!(rt; shown(alloc, b"SELECT * {} \xff")?.as_str(), "!lex 12");
-    assert_eq!(rt; shown(alloc, b"# c\nSELECT * {}")?.as_str(), "* { }");
-    Ok(())
+fn refuses_bytes_that_are_no_text(rt: HostRuntime) -> Result<(), Fail> {
+    let found = shown(rt.alloc(), b"SELECT * {} \xff")?;
+    expect(rt.alloc(), "byte 255", found.as_str(), "!lex 12")
+}
+
+#[test]
+fn reads_lines(rt: HostRuntime) -> Result<(), Fail> {
+    let found = shown(rt.alloc(), b"# c\nSELECT * {}")?;
+    expect(rt.alloc(), "two lines", found.as_str(), "* { }")
 }
