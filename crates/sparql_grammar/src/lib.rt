@@ -9,8 +9,6 @@ pub mod law;
 mod queries;
 mod read;
 mod terms;
-#[cfg(test)]
-mod tests;
 mod text;
 mod triples;
 mod values;
