@@ -102,12 +102,7 @@ fn push_value(out: &mut String, alloc: Global, row: &Row, variable: &Text) -> Re
 }
 
 /// What a row has for each variable, each followed by a space.
-fn push_values(
-    out: &mut String,
-    alloc: Global,
-    row: &Row,
-    variables: &[Text],
-) -> Result<(), Memory>
+fn push_values(out: &mut String, alloc: Global, row: &Row, variables: &[Text]) -> Result<(), Memory>
     ensures { OnOk result (string_bytes out.new ≡ string_bytes out.old
         ++ flat_map (spec.value_before row.now) variables.now) }
 {
@@ -171,12 +166,7 @@ fn push_condition(out: &mut String, alloc: Global, condition: &Expr) -> Result<(
 }
 
 /// A value under a variable's name behind its group, and the closing brace.
-fn push_bound(
-    out: &mut String,
-    alloc: Global,
-    value: &Expr,
-    variable: &Text,
-) -> Result<(), Memory>
+fn push_bound(out: &mut String, alloc: Global, value: &Expr, variable: &Text) -> Result<(), Memory>
     ensures { OnOk result (string_bytes out.new ≡ string_bytes out.old
         ++ (codes " BIND ( " ++ (expr_text (tree_of value.now) ++ (codes " AS ?" ++ (variable.now ++ codes " ) }"))))) }
 {
@@ -195,10 +185,18 @@ fn push_group(out: &mut String, alloc: Global, a: &Algebra) -> Result<(), Memory
 {
     match a {
         Algebra::Bgp(patterns) => push_bgp(out, alloc, patterns.as_slice()),
-        Algebra::Join(left, right) => push_pair(out, alloc, left, " ", right),
-        Algebra::Union(left, right) => push_pair(out, alloc, left, " UNION ", right),
+        Algebra::Join(left, right) => {
+            push_behind(out, alloc, "{ ", left)?;
+            push_behind(out, alloc, " ", right)?;
+            push(out, " }")
+        }
+        Algebra::Union(left, right) => {
+            push_behind(out, alloc, "{ ", left)?;
+            push_behind(out, alloc, " UNION ", right)?;
+            push(out, " }")
+        }
         Algebra::Filter { condition, inner } => {
-            push_opened(out, alloc, inner)?;
+            push_behind(out, alloc, "{ ", inner)?;
             push_condition(out, alloc, condition)
         }
         Algebra::Extend {
@@ -206,7 +204,7 @@ fn push_group(out: &mut String, alloc: Global, a: &Algebra) -> Result<(), Memory
             variable,
             value,
         } => {
-            push_opened(out, alloc, inner)?;
+            push_behind(out, alloc, "{ ", inner)?;
             push_bound(out, alloc, value, variable)
         }
         Algebra::Table { variables, rows } => {
@@ -216,35 +214,15 @@ fn push_group(out: &mut String, alloc: Global, a: &Algebra) -> Result<(), Memory
     }
 }
 
-/// An opening brace and the group behind it.
+/// A group behind this.
 #[cycle(group)]
-fn push_opened(out: &mut String, alloc: Global, inner: &Algebra) -> Result<(), Memory>
+fn push_behind(out: &mut String, alloc: Global, before: &str, inner: &Algebra) -> Result<(), Memory>
     requires { is_server (algebra_of inner.now) ≡ true }
     ensures { OnOk result (string_bytes out.new ≡ string_bytes out.old
-        ++ (codes "{ " ++ group_text (algebra_of inner.now))) }
+        ++ (before.now ++ group_text (algebra_of inner.now))) }
 {
-    push(out, "{ ")?;
+    push(out, before)?;
     push_group(out, alloc, inner)
-}
-
-/// Two groups with this between, in braces.
-#[cycle(group)]
-fn push_pair(
-    out: &mut String,
-    alloc: Global,
-    left: &Algebra,
-    between: &str,
-    right: &Algebra,
-) -> Result<(), Memory>
-    requires left { is_server (algebra_of left.now) ≡ true }
-    requires right { is_server (algebra_of right.now) ≡ true }
-    ensures { OnOk result (string_bytes out.new ≡ string_bytes out.old
-        ++ spec.in_braces (group_text (algebra_of left.now) ++ (between.now ++ group_text (algebra_of right.now)))) }
-{
-    push_opened(out, alloc, left)?;
-    push(out, between)?;
-    push_group(out, alloc, right)?;
-    push(out, " }")
 }
 
 /// The text in which a part of a query travels to a server: a query that selects all variables of one

@@ -235,7 +235,13 @@ fn expect(
 fn basic_graph_patterns(rt: HostRuntime) {
     let alloc = rt.alloc();
     expect(&rt, alloc, no_pattern(alloc), "SELECT * { }", &[]);
-    expect(&rt, alloc, bgp(alloc, "a"), "SELECT * { ?s <a:p> ?a . }", &["triples 1"]);
+    expect(
+        &rt,
+        alloc,
+        bgp(alloc, "a"),
+        "SELECT * { ?s <a:p> ?a . }",
+        &["triples 1"],
+    );
     expect(
         &rt,
         alloc,
@@ -293,7 +299,13 @@ fn tables(rt: HostRuntime) {
         "SELECT * { VALUES ( ?b ?a ) { ( UNDEF <a:x> ) ( \"y\"@en <a:x> ) ( UNDEF UNDEF ) } }",
         &["values 2 3"],
     );
-    expect(&rt, alloc, table_of_none(alloc), "SELECT * { VALUES ( ) { ( ) } }", &["values 0 1"]);
+    expect(
+        &rt,
+        alloc,
+        table_of_none(alloc),
+        "SELECT * { VALUES ( ) { ( ) } }",
+        &["values 0 1"],
+    );
     expect(
         &rt,
         alloc,
