@@ -161,7 +161,7 @@ def main():
     parser.add_argument("program")
     parser.add_argument("--runs", type=int, default=3)
     parser.add_argument("--only", default="", help="the queries with this in their name")
-    given, _ = parser.parse_known_args()
+    given = parser.parse_args()
     program = os.path.abspath(given.program)
     print("| Query | Answer | 65,536 | 131,072 | Growth | 262,144 | Growth | Memory in MB |")
     print("|---|---|---:|---:|---:|---:|---:|---:|")
