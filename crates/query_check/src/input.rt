@@ -10,6 +10,7 @@ use std::io::Read;
 const ROOM: usize = 262_145;
 
 /// Why there is no text.
+#[derive(Drop)]
 pub enum InputFault {
     /// A read failed.
     Failed,

@@ -6,6 +6,7 @@ mod part;
 #[cfg(test)]
 mod part_tests;
 mod printing;
+mod row_values;
 #[cfg(test)]
 mod tests;
 
