@@ -1,9 +1,9 @@
 -- Where a name stands among sorted entries: in front of an entry, at it, or behind it.
-use Rattle.std.proofs.Common.{◌≡◌, ◌++◌, ◌∷◌, ◌∙◌, Bool, true, false, List, [], None, Some, refl, sym, ap, subst, cond, Less, Equal, Greater}
+use Rattle.std.proofs.Common.{◌≡◌, ◌++◌, ◌∷◌, ◌∙◌, Bool, true, false, [], None, Some, refl, ap, cond, Less, Equal, Greater}
 use Rattle.std.specs.Prelude.{T, ◌&&◌}
 use Rattle.std.specs.declared.cmp.Ordering.{Ordering}
 use Rattle.std.specs.Ordering.{is_lt, is_eq, ordering_reverse, eq_by_cmp}
-use Rattle.std.specs.FinMap.Entries.{find, below_all, is_sorted}
+use Rattle.std.specs.FinMap.Entries.{find, below_all}
 use Rattle.std.proofs.lemmas.Cmp.{nat_list_cmp_total}
 use Rattle.term_core.specs.declared.term.Term.{Term}
 use Rattle.term_core.specs.Mappings.{Name}

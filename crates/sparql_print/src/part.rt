@@ -233,8 +233,8 @@ fn push_behind(out: &mut String, alloc: Global, before: &str, inner: &Algebra) -
 /// Expressions are written as by `print_expr`, terms as by `nt_text::write_term`.
 ///
 /// That the text reads back as the part is tested, and not proved yet. Room is linear in the text, and so
-/// is time but for rows: a value is looked for in its row by its name. The calls nest as deep as the
-/// operators and their expressions do.
+/// is time, but that a value is found in its row in the logarithm of the row's names. The calls nest as
+/// deep as the operators and their expressions do.
 pub fn print_part(alloc: Global, a: &Algebra) -> Result<Text, Memory>
     requires { is_server (algebra_of a.now) ≡ true }
     ensures { IfOk result (λ text. text ≡ part_text (algebra_of a.now)) }
