@@ -20,7 +20,14 @@ fn refuses(rt: &impl Abort, alloc: Global, text: &[u8], line: &str) {
 fn queries_are_accepted(rt: HostRuntime) {
     let alloc = rt.alloc();
     assert!(rt; is_told(alloc, b"SELECT * { ?s ?p ?o }", true, "accepted\n"));
-    assert!(rt; is_told(alloc, b"SELECT ?s { { } FILTER(?s = 1) }", true, "accepted\n"));
+    assert!(rt;
+        is_told(
+            alloc,
+            b"SELECT ?s { { } FILTER(?s = 1) }",
+            true,
+            "accepted\n"
+        )
+    );
 }
 
 #[test]
@@ -41,11 +48,17 @@ fn braces(alloc: Global, count: usize) -> Option<Vec<u8>> {
 #[test]
 fn limits_are_told(rt: HostRuntime) {
     let alloc = rt.alloc();
-    let Some(deepest) = braces(alloc, 256) else { return };
+    let Some(deepest) = braces(alloc, 256) else {
+        return
+    };
     refuses(&rt, alloc, &deepest, "not a query\n");
-    let Some(deeper) = braces(alloc, 257) else { return };
+    let Some(deeper) = braces(alloc, 257) else {
+        return
+    };
     refuses(&rt, alloc, &deeper, "too large nesting\n");
-    let Some(long) = braces(alloc, 262_145) else { return };
+    let Some(long) = braces(alloc, 262_145) else {
+        return
+    };
     refuses(&rt, alloc, &long, "too large text\n");
 }
 
@@ -63,6 +76,8 @@ fn input_is_read_to_its_end_or_the_limit(rt: HostRuntime) {
     let alloc = rt.alloc();
     assert!(rt; is_read(alloc, b"", 0));
     assert!(rt; is_read(alloc, b"SELECT", 6));
-    let Some(long) = braces(alloc, 300_000) else { return };
+    let Some(long) = braces(alloc, 300_000) else {
+        return
+    };
     assert!(rt; is_read(alloc, &long, 262_145));
 }

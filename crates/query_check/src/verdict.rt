@@ -55,7 +55,9 @@ fn fault_line(alloc: Global, fault: &QueryFault) -> Result<String, Memory>
 /// What is told of a text: `accepted`, or the first cause of its refusal, in the words of `QueryFault`:
 /// `too large text` and `too large nesting`, `lex PLACE` with a place in bytes counted from 0, `unsupported
 /// WORD`, `not a query`, `scope NAME`, `memory`.
-pub fn judge(alloc: Global, text: &[u8]) -> Result<Verdict, Memory> {
+pub fn judge(alloc: Global, text: &[u8]) -> Result<Verdict, Memory>
+    ensures { IfOk result (λ verdict. spec.IsTold text.now verdict.accepted (string_bytes verdict.line)) }
+{
     match read_tree(alloc, text) {
         Ok(_) => Ok(Verdict {
             accepted: true,
