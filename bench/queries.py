@@ -113,7 +113,7 @@ QUERIES = [
     ("words with signs between, and no colon", in_group(lambda n: "a-"), NO_QUERY),
     ("points behind a name", in_group(lambda n: "_:a" if n == 0 else "."), NO_QUERY),
     ("a long number, out of range", lambda size: filled(size, "SELECT * { ?s ?p ", lambda n: "7", "}"), "unsupported 7777777777.."),
-    ("a long number of zeros", lambda size: filled(size, "SELECT * { ?s ?p ", lambda n: "0", "7}"), None),
+    ("a long number of zeros", lambda size: filled(size, "SELECT * { ?s ?p ", lambda n: "0", "7}"), ACCEPTED),
     ("a long decimal, out of range", lambda size: filled(size, "SELECT * { ?s ?p 0.", lambda n: "7", "}"), "unsupported 0.77777777.."),
     ("only comments", lambda size: filled(size, "", lambda n: f"# {n}\n", ""), NO_QUERY),
     ("only blanks", lambda size: " " * size, NO_QUERY),
@@ -153,7 +153,7 @@ def row(program, path, name, rule, answer, runs):
         told_runs = [told(program, path) for _ in range(runs)]
         line, best, memory = min(told_runs, key=lambda run: run[1])
         wanted = answer(size) if callable(answer) else answer
-        if wanted is not None and line != wanted:
+        if line != wanted:
             sys.exit(f"{name}: {line}, and not {wanted}")
         seconds.append(best)
     growths = [f"{later / max(before, 0.001):.1f}" for before, later in zip(seconds, seconds[1:])]
