@@ -47,7 +47,9 @@ fn fill<R: Read>(reader: &mut R, buffer: &mut [u8]) -> io::Result<usize>
 
 /// The bytes of a reader up to its end, and of a longer text so many that it is too long for a query. So
 /// the room is bounded, whatever the reader gives.
-pub fn read_text<R: Read>(alloc: Global, reader: &mut R) -> Result<Vec<u8>, InputFault> {
+pub fn read_text<R: Read>(alloc: Global, reader: &mut R) -> Result<Vec<u8>, InputFault>
+    ensures { IfOk result (λ text. length text.items ≤ 262145) }
+{
     let mut text = vec![in alloc; 0u8; ROOM]?;
     let count = fill(reader, &mut text)?;
     text.truncate(count);
