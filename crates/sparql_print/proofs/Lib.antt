@@ -1,0 +1,4 @@
+pub mod Texts
+pub mod Layers
+pub mod ReadsBack
+pub mod Halves
