@@ -6,7 +6,7 @@ use Rattle.sparql_tree.specs.declared.fault.Size.{Size}
 use Rattle.sparql_tree.specs.declared.fault.Size.TheVariants as sizes
 use Rattle.sparql_tree.specs.declared.fault.QueryFault.{QueryFault}
 use Rattle.sparql_tree.specs.declared.fault.QueryFault.TheVariants as faults
-use Rattle.sparql_grammar.specs.Trees.{IsTree, WhyNoTree}
+use Rattle.sparql_read.specs.Accepted as read
 
 -- the name of a limit
 abbrev pub size_text : Size → List ℕ
@@ -25,16 +25,16 @@ fault_line faults.NotAQuery = codes "not a query\n"
 fault_line (faults.Scope variable) = codes "scope " ++ (variable ++ codes "\n")
 fault_line faults.Memory = codes "memory\n"
 
--- the text is that of a query, and so is told
+-- the text is of a query that is accepted, and so is told
 pub record IsAccepted (text line : List ℕ) : Type 0 where
   pub query : Query
-  pub tree : IsTree text query
+  pub accepted : read.IsAccepted text query
   pub told : line ≡ codes "accepted\n"
 
 -- the text is refused, and the line names the cause
 pub record IsRefused (text line : List ℕ) : Type 0 where
   pub fault : QueryFault
-  pub why : WhyNoTree text fault
+  pub why : read.WhyRefused text fault
   pub told : line ≡ fault_line fault
 
 -- the line is what is to be told of a text that is accepted, or refused

@@ -38,6 +38,12 @@ fn causes_are_told(rt: HostRuntime) {
     refuses(&rt, alloc, b"SELECT * { ^^^ `", "lex 15\n");
     refuses(&rt, alloc, b"\xff", "lex 0\n");
     refuses(&rt, alloc, b"ASK { ?s ?p ?o }", "unsupported ASK\n");
+    refuses(
+        &rt,
+        alloc,
+        b"SELECT * { ?s ?p ?o BIND(1 AS ?o) }",
+        "scope ?o\n",
+    );
 }
 
 /// A text of this many open braces.

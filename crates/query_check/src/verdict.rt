@@ -3,7 +3,7 @@
 ghost use Rattle.std.specs.Prelude.{◌≡◌, IfOk, string_bytes};
 ghost use Rattle.query_check.specs.Verdicts as spec;
 
-use sparql_grammar::read_tree;
+use sparql_read::read_query;
 use sparql_tree::{QueryFault, Size};
 use std::alloc::Global;
 use term_core::Memory;
@@ -58,7 +58,7 @@ fn fault_line(alloc: Global, fault: &QueryFault) -> Result<String, Memory>
 pub fn judge(alloc: Global, text: &[u8]) -> Result<Verdict, Memory>
     ensures { IfOk result (λ verdict. spec.IsTold text.now verdict.accepted (string_bytes verdict.line)) }
 {
-    match read_tree(alloc, text) {
+    match read_query(alloc, text) {
         Ok(_) => Ok(Verdict {
             accepted: true,
             line: String::from_str(alloc, "accepted\n")?,
