@@ -1,0 +1,10 @@
+pub mod Constraints
+pub mod Gives
+pub mod Layers
+pub mod LiteralPieces
+pub mod Pieces
+pub mod ReadsBack
+pub mod Separate
+pub mod Shown
+pub mod TermPieces
+pub mod Texts

@@ -1,0 +1,5 @@
+pub mod Constraints
+pub mod ExprText
+pub mod Pieces
+pub mod Printed
+pub mod Spelled

@@ -1,0 +1,31 @@
+//! Laws of printed expressions. Each is the contract of a function that does nothing.
+
+ghost use Rattle.std.specs.Prelude.{◌≡◌, ◌≤◌, ℕ, Bool, List, length};
+ghost use Rattle.sparql_tree.specs.Exprs.{Expr};
+ghost use Rattle.sparql_symbol.specs.Refusals.{AreSymbols};
+ghost use Rattle.sparql_symbol.specs.Symbols.{lexemes};
+ghost use Rattle.sparql_symbol.specs.Unsupported.{deepest};
+ghost use Rattle.sparql_print.specs.Constraints.{SpellsConstraint};
+ghost use Rattle.sparql_print.specs.ExprText.{expr_text, in_parens};
+ghost use Rattle.sparql_print.specs.Printed.{IsTree};
+ghost use Rattle.sparql_print.specs.Spelled.{AreSpelledIn};
+
+/// The text of an expression of a tree, whose names and terms can be written, spells in parentheses
+/// that expression (SPARQL 1.1, 19.8, Constraint).
+pub fn text_reads_back()
+    ensures { (aggregates : Bool) (a : Expr) → IsTree aggregates a → AreSpelledIn a
+        → SpellsConstraint aggregates (in_parens (expr_text a)) a }
+{}
+
+/// A text spells at most one expression as a constraint.
+pub fn one_constraint()
+    ensures { (aggregates : Bool) (text : List ℕ) (a b : Expr)
+        → SpellsConstraint aggregates text a → SpellsConstraint aggregates text b → a ≡ b }
+{}
+
+/// A text that spells a constraint is not refused, unless for its size or its nesting, and its symbols
+/// are those of the constraint.
+pub fn constraints_have_symbols()
+    ensures { (aggregates : Bool) (text : List ℕ) (a : Expr) → (h : SpellsConstraint aggregates text a)
+        → length text ≤ 262144 → deepest (lexemes text h.ts) ≤ 256 → AreSymbols text h.symbols }
+{}
