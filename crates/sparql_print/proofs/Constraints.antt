@@ -1,14 +1,13 @@
 -- The text of an expression in parentheses spells it as a constraint, and spells no other.
-use Rattle.std.proofs.Common.{◌≡◌, ◌≤◌, ℕ, suc, Bool, true, false, List, [], ◌∷◌, ◌++◌, length, Some, None, refl, sym, subst, ap, ◌∙◌, arith, append-nil}
+use Rattle.std.proofs.Common.{◌≡◌, ◌≤◌, ℕ, Bool, false, List, [], ◌∷◌, length, Some, sym, subst, ap, ◌∙◌, arith, append-nil}
 use Rattle.term_core.specs.Tokens.{Tokens}
 use Rattle.term_core.specs.declared.token.Token.{Token}
 use Rattle.sparql_lex.proofs.Readings.{one-tokens}
 use Rattle.sparql_tree.specs.Exprs.{Expr}
 use Rattle.sparql_symbol.specs.declared.symbol.Shape.TheVariants as s
 use Rattle.sparql_symbol.specs.declared.symbol.Symbol.{Symbol}
-use Rattle.sparql_symbol.specs.Prologue.{Declaration, IsDeclaration, NoDeclaration, ended, no_prefixes}
-use Rattle.sparql_symbol.specs.Reading.{read_symbols}
-use Rattle.sparql_symbol.specs.Refusals.{AreTokensOf, AreSymbols}
+use Rattle.sparql_symbol.specs.Prologue.{NoDeclaration, ended, no_prefixes}
+use Rattle.sparql_symbol.specs.Refusals.{AreSymbols}
 use Rattle.sparql_symbol.specs.Symbols.{Lexeme, Prefixes, lexemes, symbol, bare, other, IsSymbolOf, AreSymbolsOf}
 use Rattle.sparql_symbol.specs.Unsupported.{deepest}
 use Rattle.sparql_symbol.proofs.Judged.{tokens-of, text-lexemes}
@@ -20,7 +19,7 @@ use Rattle.sparql_print.specs.ExprText.{expr_text, in_parens}
 use Rattle.sparql_print.specs.Printed.{IsTree, expr_symbols}
 use Rattle.sparql_print.specs.Spelled.{AreSpelledIn}
 use Rattle.sparql_print.specs.Constraints.{SpellsConstraint}
-use Rattle.sparql_print.proofs.Gives.{Gives, IsShown, Cut, whole_cut}
+use Rattle.sparql_print.proofs.Gives.{Gives, whole_cut}
 use Rattle.sparql_print.proofs.ReadsBack.{reads_back, expr-of}
 use Rattle.sparql_print.proofs.Shown.{expr-shown, in_parens-shown}
 
@@ -59,8 +58,8 @@ one-symbols text ts us a b tokens e h k =
 pub spells-one : (aggregates : Bool) (text : List ℕ) (a b : Expr) → SpellsConstraint aggregates text a → SpellsConstraint aggregates text b → a ≡ b
 spells-one aggregates text a b h k =
     one-constraint aggregates h.symbols k.symbols a b
-        (one-symbols text h.ts k.ts h.symbols k.symbols h.tokens (one-tokens text h.ts k.ts h.tokens k.tokens) (h.are_symbols no_prefixes) (k.are_symbols no_prefixes))
-        h.spelled k.spelled
+    (one-symbols text h.ts k.ts h.symbols k.symbols h.tokens (one-tokens text h.ts k.ts h.tokens k.tokens) (h.are_symbols no_prefixes) (k.are_symbols no_prefixes))
+    h.spelled k.spelled
 
 -- ---- within the limits
 
@@ -81,6 +80,7 @@ no_name ls ss h word name iri rest d e k =
         let p' = subst (λ v. IsSymbolOf no_prefixes v name.text t) k.is_name.kind p in
         let q' = subst (λ v. IsSymbolOf all_prefixes v name.text t) k.is_name.kind q in
         not_both t _ p'.1 q'.1
+
     go : (ss : List Symbol) → AreSymbolsOf no_prefixes (word ∷ name ∷ iri ∷ rest) ss → AreSymbolsOf all_prefixes (word ∷ name ∷ iri ∷ rest) ss → ⊥
     go [] p q = p
     go (t ∷ []) p q = p.1

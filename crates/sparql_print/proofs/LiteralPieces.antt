@@ -1,5 +1,5 @@
 -- The symbols of literals: a string, and its tag or its datatype behind it.
-use Rattle.std.proofs.Common.{◌≡◌, ◌≢◌, ℕ, Bool, true, false, List, [], ◌∷◌, ◌++◌, Some, None, refl, sym, subst, ap, ◌∙◌, inl, inr, append_assoc, append-nil, codes}
+use Rattle.std.proofs.Common.{◌≡◌, ℕ, Bool, true, false, List, [], ◌∷◌, ◌++◌, None, refl, sym, subst, ap, ◌∙◌, inl, inr, append_assoc}
 use Rattle.std.specs.Prelude.{flat_map, ◌==◌}
 use Rattle.std.specs.Str.{bytes_eq}
 use Rattle.term_core.specs.Characters.{is_pn, is_pn_u, is_pn_base, IsTextOf}
@@ -44,7 +44,7 @@ literal-shown cs lexical kind kind_bytes add is kind_is other gives = record {
       (text_both (quoted_text cs) kind (quoted_text lexical) kind_bytes (quoted-is_text cs lexical is) kind_is);
   gives = λ rest ss sep.
       subst (λ t. Gives t (symbol s.Quoted lexical ∷ add ss) rest ss) (sym (append_assoc (quoted_text cs) kind rest))
-          (gives-then (string-gives cs lexical (kind ++ rest) (add ss) is (other rest sep)) (gives rest ss sep));
+      (gives-then (string-gives cs lexical (kind ++ rest) (add ss) is (other rest sep)) (gives rest ss sep));
 }
 
 plain-shown : (cs lexical : List ℕ) → IsTextOf cs lexical → IsShown (34 ∷ (flat_map escaped lexical ++ 34 ∷ [])) (λ ss. symbol s.Quoted lexical ∷ ss)
@@ -65,16 +65,16 @@ typed-gives : (iri : List ℕ) → (h : IsSpelledIri iri) → (rest : List ℕ) 
 unfolding step is_pn is_pn_u is_pn_base lib.Utf8.encode
 typed-gives iri h rest ss sep =
     piece {kind = kinds.Sign} {front = 94 ∷ 94 ∷ []} {text = iri_text h.characters ++ rest}
-        (longest-by kinds.Sign (94 ∷ 94 ∷ []) (iri_text h.characters ++ rest) (read-token (94 ∷ 94 ∷ []) kinds.Sign refl)
-            (λ d x behind e. typed-stops d x (let same : 60 ≡ d = cc in sym same)))
-        (λ prefixes. refl) (λ select count. refl) (iri-gives iri h rest ss sep)
+    (longest-by kinds.Sign (94 ∷ 94 ∷ []) (iri_text h.characters ++ rest) (read-token (94 ∷ 94 ∷ []) kinds.Sign refl)
+    (λ d x behind e. typed-stops d x (let same : 60 ≡ d = cc in sym same)))
+    (λ prefixes. refl) (λ select count. refl) (iri-gives iri h rest ss sep)
 
 typed-shown : (cs lexical iri : List ℕ) → IsTextOf cs lexical → IsSpelledIri iri
     → IsShown (34 ∷ (flat_map escaped lexical ++ 34 ∷ 94 ∷ 94 ∷ iri_text iri)) (λ ss. symbol s.Quoted lexical ∷ bare s.Typed ∷ symbol s.Iri iri ∷ ss)
 typed-shown cs lexical iri is h =
     literal-shown cs lexical (94 ∷ 94 ∷ iri_text h.characters) (94 ∷ 94 ∷ iri_text iri) (λ ss. bare s.Typed ∷ symbol s.Iri iri ∷ ss) is
-        (text_both (94 ∷ 94 ∷ []) (iri_text h.characters) (94 ∷ 94 ∷ []) (iri_text iri) (text_small (94 ∷ 94 ∷ []) refl) (iri-is_text h.characters iri h.is_text))
-        (λ rest sep. unquoted 94 ((94 ∷ iri_text h.characters) ++ rest) refl) (typed-gives iri h)
+    (text_both (94 ∷ 94 ∷ []) (iri_text h.characters) (94 ∷ 94 ∷ []) (iri_text iri) (text_small (94 ∷ 94 ∷ []) refl) (iri-is_text h.characters iri h.is_text))
+    (λ rest sep. unquoted 94 ((94 ∷ iri_text h.characters) ++ rest) refl) (typed-gives iri h)
 
 -- without a tag: the datatype, unless it is that of plain strings
 by_type : (cs lexical datatype : List ℕ) → IsTextOf cs lexical → IsSpelledIri datatype → (t : Bool) → bytes_eq datatype xsd_string ≡ t

@@ -1,11 +1,8 @@
 -- The symbols of each piece of a text.
-use Rattle.std.proofs.Common.{◌≡◌, ◌≢◌, ℕ, Bool, true, false, List, [], ◌∷◌, ◌++◌, Option, Some, None, refl, sym, subst, ap, ◌∙◌, inl, inr, append_assoc, codes, chars, encode_utf8_all}
-use Rattle.std.specs.Prelude.{flat_map, ◌&&◌}
-use Rattle.std.proofs.lemmas.Str.{chars-encodes}
-use Rattle.term_core.specs.Characters.{is_pn, is_pn_u, is_pn_base, is_iri, is_plain, AreAll, IsTextOf}
-use Rattle.term_core.specs.Terminals.{IsToken, IsWord}
-use Rattle.term_core.specs.Tokens.{IsLongest}
-use Rattle.term_core.specs.declared.token.Kind.{Kind}
+use Rattle.std.proofs.Common.{◌≡◌, ℕ, Bool, true, false, List, [], ◌∷◌, ◌++◌, Some, None, refl, sym, subst, append_assoc, codes, encode_utf8_all}
+use Rattle.std.specs.Prelude.{◌&&◌}
+use Rattle.term_core.specs.Characters.{is_pn, is_pn_u, is_pn_base, AreAll}
+use Rattle.term_core.specs.Terminals.{IsWord}
 use Rattle.term_core.specs.declared.token.Kind.TheVariants as kinds
 use Rattle.sparql_tree.specs.declared.words.AggregateKind.{AggregateKind}
 use Rattle.sparql_tree.specs.declared.words.AggregateKind.TheVariants as aggregates
@@ -20,14 +17,14 @@ use Rattle.sparql_lex.proofs.KindStates.{read-token}
 use Rattle.sparql_symbol.specs.declared.symbol.Shape.{Shape}
 use Rattle.sparql_symbol.specs.declared.symbol.Shape.TheVariants as s
 use Rattle.sparql_symbol.specs.declared.symbol.Symbol.{Symbol}
-use Rattle.sparql_symbol.specs.Symbols.{symbol, bare, word_symbol}
+use Rattle.sparql_symbol.specs.Symbols.{bare, word_symbol}
 use Rattle.sparql_symbol.specs.Words.{is_word, is_unsupported_word, sign_shape}
 use Rattle.sparql_symbol.specs.Unsupported.{is_bracket}
 use Rattle.nt_text.proofs.TagLaws.{is_small}
 use Rattle.nt_text.proofs.WrittenText.{text_small, text_both}
 use Rattle.sparql_print.specs.ExprText.{spaced, op_text, function_text, aggregate_text, sum_sign, product_sign}
 use Rattle.sparql_print.specs.Printed.{op_shape, sum_shape, product_shape}
-use Rattle.sparql_print.proofs.Separate.{Separate, longest-separate, sign-longest}
+use Rattle.sparql_print.proofs.Separate.{longest-separate, sign-longest}
 use Rattle.sparql_print.proofs.Gives.{IsShown, Gives, done, gap, piece, gives-then}
 
 sign-shown : (text : List ℕ) (shape : Shape) → AreAll is_small text → reads text states.Start ≡ Some kinds.Sign → ((x : List ℕ) → reads (text ++ 32 ∷ x) states.Start ≡ None)
@@ -57,7 +54,7 @@ spaced-shown {a} {b} {f} {g} h k = record {
   is_text = text_both h.characters (32 ∷ k.characters) a (32 ∷ b) h.is_text (text_both (32 ∷ []) k.characters (32 ∷ []) b (text_small (32 ∷ []) refl) k.is_text);
   gives = λ rest ss sep.
       subst (λ t. Gives t (f (g ss)) rest ss) (sym (append_assoc h.characters (32 ∷ k.characters) rest))
-          (gives-then (h.gives (32 ∷ (k.characters ++ rest)) (g ss) refl) (gap (k.gives rest ss sep)));
+      (gives-then (h.gives (32 ∷ (k.characters ++ rest)) (g ss) refl) (gap (k.gives rest ss sep)));
 }
 
 pub open-shown : IsShown (codes "(") (λ ss. bare s.Open ∷ ss)

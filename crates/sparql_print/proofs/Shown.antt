@@ -1,5 +1,5 @@
 -- The symbols of the text of an expression.
-use Rattle.std.proofs.Common.{◌≡◌, ℕ, Bool, true, false, List, [], ◌∷◌, ◌++◌, refl, sym, subst, append_assoc, codes}
+use Rattle.std.proofs.Common.{ℕ, Bool, true, false, List, [], ◌∷◌, ◌++◌, refl, sym, subst, append_assoc, codes}
 use Rattle.std.specs.Prelude.{flat_map}
 use Rattle.sparql_tree.specs.Exprs.{Expr, Var, Const, Or, And, Not, Plus, Minus, Compare, OneOf, Sum, Product, Call, Aggregate, AggregateAll, Exprs, EndOfExprs, ThenExpr, Operands, EndOfOperands, ThenOperand}
 use Rattle.sparql_symbol.specs.declared.symbol.Shape.{Shape}
@@ -44,7 +44,7 @@ then-shown a b f g h t = record {
   is_text = text_both h.characters t.shown.characters a b h.is_text t.shown.is_text;
   gives = λ rest ss sep.
       subst (λ cs. Gives cs (f (g ss)) rest ss) (sym (append_assoc h.characters t.shown.characters rest))
-          (gives-then (h.gives (t.shown.characters ++ rest) (g ss) (t.separate rest sep)) (t.shown.gives rest ss sep));
+      (gives-then (h.gives (t.shown.characters ++ rest) (g ss) (t.separate rest sep)) (t.shown.gives rest ss sep));
 }
 
 -- a sign and a text, each behind a space, before a tail
@@ -99,19 +99,19 @@ mutual
   expr-shown (Minus value) h = unary-shown (codes "-") (expr_text value) s.Minus (λ ss. expr_symbols value ss) minus-shown (expr-shown value h)
   expr-shown (Compare op left right) h =
       binary-shown (expr_text left) (op_text op) (expr_text right) (λ ss. expr_symbols left ss) (λ ss. bare (op_shape op) ∷ ss) (λ ss. expr_symbols right ss)
-          (expr-shown left h.0) (op-shown op) (expr-shown right h.1)
+      (expr-shown left h.0) (op-shown op) (expr-shown right h.1)
   expr-shown (OneOf left items negated) h =
       binary-shown (expr_text left) (in_text negated) (list_text (expr_texts items)) (λ ss. expr_symbols left ss) (λ ss. in_symbols negated ss)
-          (λ ss. bare s.Open ∷ joined_symbols s.Comma items (bare s.Close ∷ ss)) (expr-shown left h.0) (in_text-shown negated) (list-shown items h.1)
+      (λ ss. bare s.Open ∷ joined_symbols s.Comma items (bare s.Close ∷ ss)) (expr-shown left h.0) (in_text-shown negated) (list-shown items h.1)
   expr-shown (Sum first rest) h =
       chain-shown (expr_text first) (operands_text sum_sign rest) (λ ss. expr_symbols first ss) (λ ss. operand_symbols sum_shape rest ss)
-          (expr-shown first h.0) (operands-shown sum_sign sum_shape sum_sign-shown rest h.1)
+      (expr-shown first h.0) (operands-shown sum_sign sum_shape sum_sign-shown rest h.1)
   expr-shown (Product first rest) h =
       chain-shown (expr_text first) (operands_text product_sign rest) (λ ss. expr_symbols first ss) (λ ss. operand_symbols product_shape rest ss)
-          (expr-shown first h.0) (operands-shown product_sign product_shape product_sign-shown rest h.1)
+      (expr-shown first h.0) (operands-shown product_sign product_shape product_sign-shown rest h.1)
   expr-shown (Call function arguments) h =
       call-shown (function_text function) (list_text (expr_texts arguments)) (s.Function function) (λ ss. bare s.Open ∷ joined_symbols s.Comma arguments (bare s.Close ∷ ss))
-          (function-shown function) (list-shown arguments h)
+      (function-shown function) (list-shown arguments h)
   expr-shown (Aggregate kind distinct argument) h =
       aggregate_of-shown (aggregate_text kind) (expr_text argument) (s.Aggregate kind) distinct (λ ss. expr_symbols argument ss) (aggregate-shown kind) (expr-shown argument h)
   expr-shown (AggregateAll kind distinct) h =
@@ -121,25 +121,25 @@ mutual
   list-shown EndOfExprs h = spaced-shown open-shown close-shown
   list-shown (ThenExpr first rest) h =
       chain-shown (expr_text first) (flat_map (behind (codes ",")) (expr_texts rest)) (λ ss. expr_symbols first ss) (λ ss. more_symbols s.Comma rest ss)
-          (expr-shown first h.0) (more-shown (codes ",") s.Comma comma-shown rest h.1)
+      (expr-shown first h.0) (more-shown (codes ",") s.Comma comma-shown rest h.1)
 
   joined-shown : (sign : List ℕ) (shape : Shape) → IsShown sign (λ ss. bare shape ∷ ss) → (parts : Exprs) → AreSpelledInAll parts
       → IsShown (joined sign (expr_texts parts)) (λ ss. joined_symbols shape parts ss)
   joined-shown sign shape of_sign EndOfExprs h = no_tail.shown
   joined-shown sign shape of_sign (ThenExpr first rest) h =
       then-shown (expr_text first) (flat_map (behind sign) (expr_texts rest)) (λ ss. expr_symbols first ss) (λ ss. more_symbols shape rest ss)
-          (expr-shown first h.0) (more-shown sign shape of_sign rest h.1)
+      (expr-shown first h.0) (more-shown sign shape of_sign rest h.1)
 
   more-shown : (sign : List ℕ) (shape : Shape) → IsShown sign (λ ss. bare shape ∷ ss) → (parts : Exprs) → AreSpelledInAll parts
       → IsTail (flat_map (behind sign) (expr_texts parts)) (λ ss. more_symbols shape parts ss)
   more-shown sign shape of_sign EndOfExprs h = no_tail
   more-shown sign shape of_sign (ThenExpr first rest) h =
       tail-more sign (expr_text first) (flat_map (behind sign) (expr_texts rest)) shape (λ ss. expr_symbols first ss) (λ ss. more_symbols shape rest ss)
-          of_sign (expr-shown first h.0) (more-shown sign shape of_sign rest h.1)
+      of_sign (expr-shown first h.0) (more-shown sign shape of_sign rest h.1)
 
   operands-shown : (text : Bool → List ℕ) (shape : Bool → Shape) → ((inverse : Bool) → IsShown (text inverse) (λ ss. bare (shape inverse) ∷ ss)) → (rest : Operands)
       → AreSpelledInOperands rest → IsTail (operands_text text rest) (λ ss. operand_symbols shape rest ss)
   operands-shown text shape of_sign EndOfOperands h = no_tail
   operands-shown text shape of_sign (ThenOperand inverse value rest) h =
       tail-more (text inverse) (expr_text value) (operands_text text rest) (shape inverse) (λ ss. expr_symbols value ss) (λ ss. operand_symbols shape rest ss)
-          (of_sign inverse) (expr-shown value h.0) (operands-shown text shape of_sign rest h.1)
+      (of_sign inverse) (expr-shown value h.0) (operands-shown text shape of_sign rest h.1)

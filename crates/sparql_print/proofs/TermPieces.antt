@@ -1,15 +1,14 @@
 -- The symbols of variables and terms.
-use Rattle.std.proofs.Common.{◌≡◌, ◌≢◌, ◌⊎◌, ℕ, Bool, true, false, cond, List, [], ◌∷◌, ◌++◌, Option, Some, None, refl, sym, subst, ap, ◌∙◌, inl, inr, append_assoc, codes, chars, map, encode_utf8_all}
+use Rattle.std.proofs.Common.{◌≡◌, ℕ, Bool, true, false, cond, List, [], ◌∷◌, ◌++◌, None, refl, sym, subst, ap, ◌∙◌, inl, inr, append_assoc, chars, map, encode_utf8_all}
 use Rattle.std.specs.Prelude.{flat_map, ◌==◌}
 use Rattle.std.specs.Char.{to_ascii_lowercase}
 use Rattle.std.proofs.lemmas.Str.{chars-encodes}
-use Rattle.term_core.specs.Characters.{is_pn, is_pn_u, is_pn_base, is_iri, is_plain, AreAll, IsTextOf}
+use Rattle.term_core.specs.Characters.{is_pn, is_pn_u, is_pn_base, is_plain, AreAll, IsTextOf}
 use Rattle.term_core.specs.Escapes.{IsEscaped, IsStringEscape}
 use Rattle.term_core.specs.Escapes.IsEscaped.{nothing, character, escape}
 use Rattle.term_core.specs.Spelling.{IsSpelledIri, IsSpelledTag}
-use Rattle.term_core.specs.Terminals.{IsToken, IsIri, IsVariable, IsShortString, IsLanguage, is_plain_in}
+use Rattle.term_core.specs.Terminals.{IsIri, IsVariable, IsShortString, IsLanguage, is_plain_in}
 use Rattle.term_core.specs.Texts.{escaped}
-use Rattle.term_core.specs.declared.token.Kind.{Kind}
 use Rattle.term_core.specs.declared.token.Kind.TheVariants as kinds
 use Rattle.sparql_lex.specs.declared.state.State.{State}
 use Rattle.sparql_lex.specs.declared.state.State.TheVariants as states
@@ -22,12 +21,12 @@ use Rattle.sparql_symbol.specs.declared.symbol.Symbol.{Symbol}
 use Rattle.sparql_symbol.specs.Symbols.{symbol, iri_symbol, IsStringSymbol}
 use Rattle.nt_text.proofs.Cut.{scheme_encoded}
 use Rattle.nt_text.proofs.EscapeLaws.{all_parts}
-use Rattle.nt_text.proofs.TagLaws.{is_small, tag_small, tag_encoded}
+use Rattle.nt_text.proofs.TagLaws.{tag_small, tag_encoded}
 use Rattle.nt_text.proofs.WrittenText.{IsWrittenAs, written_as, text_small, text_both, text_escaped}
 use Rattle.nt_text.proofs.WrittenText.IsWrittenAs.{backslash, quote, feed, return, itself}
 use Rattle.sparql_print.specs.Spelled.{IsSpelledName}
 use Rattle.sparql_print.proofs.Separate.{Separate, longest-separate, longest-by}
-use Rattle.sparql_print.proofs.Gives.{IsShown, Gives, done, piece, gives-then}
+use Rattle.sparql_print.proofs.Gives.{IsShown, Gives, done, piece}
 
 -- a fact of the characters is one of those behind their bytes
 of_bytes : (P : List ℕ → Type 0) (cs bytes : List ℕ) → IsTextOf cs bytes → P cs → P (chars (encode_utf8_all cs))
@@ -45,8 +44,8 @@ name-shown name h =
       is_text = is;
       gives = λ rest ss sep.
           piece {kind = kinds.Var} (longest-separate kinds.Var cs rest (λ e. absurd (cc)) (λ e. absurd (cc)) variable sep)
-              (λ prefixes. of_bytes (λ t. (v : IsVariable t) × (symbol s.Var name ≡ symbol s.Var (encode_utf8_all (v.first ∷ v.more)))) cs (63 ∷ name) is (variable, ap (symbol s.Var) (sym h.is_text.encoded)))
-              (λ select count. refl) done;
+          (λ prefixes. of_bytes (λ t. (v : IsVariable t) × (symbol s.Var name ≡ symbol s.Var (encode_utf8_all (v.first ∷ v.more)))) cs (63 ∷ name) is (variable, ap (symbol s.Var) (sym h.is_text.encoded)))
+          (λ select count. refl) done;
     }
 
 -- ---- IRIs
@@ -69,9 +68,9 @@ iri-gives iri h rest ss sep =
     let cs = iri_text h.characters in
     let token : IsIri cs = record { body = h.characters; iri = h.characters; is_body = itself_all h.characters h.of_class; spelled = refl } in
     piece {kind = kinds.Iri} (longest-separate kinds.Iri cs rest (λ e. absurd (cc)) (λ e. absurd (cc)) token sep)
-        (λ prefixes. of_bytes (λ t. (v : IsIri t) × (symbol s.Iri iri ≡ iri_symbol (encode_utf8_all v.iri))) cs (iri_text iri) (iri-is_text h.characters iri h.is_text)
-            (token, iri-symbol h.characters iri h.is_text.encoded _ (scheme_encoded h.characters ∙ h.scheme)))
-        (λ select count. refl) done
+    (λ prefixes. of_bytes (λ t. (v : IsIri t) × (symbol s.Iri iri ≡ iri_symbol (encode_utf8_all v.iri))) cs (iri_text iri) (iri-is_text h.characters iri h.is_text)
+    (token, iri-symbol h.characters iri h.is_text.encoded _ (scheme_encoded h.characters ∙ h.scheme)))
+    (λ select count. refl) done
 
 pub iri-shown : (iri : List ℕ) → IsSpelledIri iri → IsShown (iri_text iri) (λ ss. symbol s.Iri iri ∷ ss)
 iri-shown iri h = record { characters = iri_text h.characters; is_text = iri-is_text h.characters iri h.is_text; gives = iri-gives iri h }
@@ -85,9 +84,9 @@ pub tag-gives : (tag : List ℕ) → IsSpelledTag tag → (rest : List ℕ) (ss 
 tag-gives tag h rest ss sep =
     let token : IsLanguage (64 ∷ tag) = record { tag = tag; is_tag = h.is_tag; spelled = refl } in
     piece {kind = kinds.Lang} (longest-separate kinds.Lang (64 ∷ tag) rest (λ e. absurd (cc)) (λ e. absurd (cc)) token sep)
-        (λ prefixes. of_bytes (λ t. (v : IsLanguage t) × (symbol s.Tag tag ≡ symbol s.Tag (map to_ascii_lowercase (encode_utf8_all v.tag)))) (64 ∷ tag) (64 ∷ tag) (tag-is_text tag h)
-            (token, ap (symbol s.Tag) (sym (ap (map to_ascii_lowercase) (tag_encoded tag h.is_tag) ∙ h.lower))))
-        (λ select count. refl) done
+    (λ prefixes. of_bytes (λ t. (v : IsLanguage t) × (symbol s.Tag tag ≡ symbol s.Tag (map to_ascii_lowercase (encode_utf8_all v.tag)))) (64 ∷ tag) (64 ∷ tag) (tag-is_text tag h)
+    (token, ap (symbol s.Tag) (sym (ap (map to_ascii_lowercase) (tag_encoded tag h.is_tag) ∙ h.lower))))
+    (λ select count. refl) done
 
 -- ---- strings
 
@@ -159,5 +158,5 @@ pub string-gives : (cs lexical rest : List ℕ) (ss : List Symbol) → IsTextOf 
 string-gives cs lexical rest ss h other =
     let token : IsShortString (quoted_text cs) = record { quote = 34; body = flat_map escaped cs; value = cs; quotes = refl; is_body = escaped-spells cs; spelled = refl } in
     piece {kind = kinds.String} (longest-by kinds.String (quoted_text cs) rest (inl token) (λ d x behind e. string-stops cs d x (other d behind e)))
-        (λ prefixes. of_bytes (λ t. IsStringSymbol t (symbol s.Quoted lexical)) (quoted_text cs) (quoted_text lexical) (quoted-is_text cs lexical h) (inl (token, ap (symbol s.Quoted) (sym h.encoded))))
-        (λ select count. refl) done
+    (λ prefixes. of_bytes (λ t. IsStringSymbol t (symbol s.Quoted lexical)) (quoted_text cs) (quoted_text lexical) (quoted-is_text cs lexical h) (inl (token, ap (symbol s.Quoted) (sym h.encoded))))
+    (λ select count. refl) done
