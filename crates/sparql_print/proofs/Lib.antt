@@ -1,10 +1,14 @@
+pub mod BareShapes
 pub mod Constraints
 pub mod Gives
 pub mod Layers
 pub mod LiteralPieces
+pub mod LocalNames
 pub mod Pieces
 pub mod ReadsBack
 pub mod Separate
 pub mod Shown
+pub mod SpelledExprs
+pub mod SpelledTokens
 pub mod TermPieces
 pub mod Texts

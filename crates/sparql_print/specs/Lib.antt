@@ -3,3 +3,4 @@ pub mod ExprText
 pub mod Pieces
 pub mod Printed
 pub mod Spelled
+pub mod SpelledSymbols

@@ -2,13 +2,16 @@
 
 ghost use Rattle.std.specs.Prelude.{◌≡◌, ◌≤◌, ℕ, Bool, List, length};
 ghost use Rattle.sparql_tree.specs.Exprs.{Expr};
+ghost use Rattle.sparql_symbol.specs.declared.symbol.Symbol.{Symbol};
 ghost use Rattle.sparql_symbol.specs.Refusals.{AreSymbols};
 ghost use Rattle.sparql_symbol.specs.Symbols.{lexemes};
 ghost use Rattle.sparql_symbol.specs.Unsupported.{deepest};
+ghost use Rattle.sparql_grammar.specs.Expressions.{IsExpr};
 ghost use Rattle.sparql_print.specs.Constraints.{SpellsConstraint};
 ghost use Rattle.sparql_print.specs.ExprText.{expr_text, in_parens};
 ghost use Rattle.sparql_print.specs.Printed.{IsTree};
 ghost use Rattle.sparql_print.specs.Spelled.{AreSpelledIn};
+ghost use Rattle.sparql_print.specs.SpelledSymbols.{AreSpelledSymbols};
 
 /// The text of an expression of a tree, whose names and terms can be written, spells in parentheses
 /// that expression (SPARQL 1.1, 19.8, Constraint).
@@ -28,4 +31,12 @@ pub fn one_constraint()
 pub fn constraints_have_symbols()
     ensures { (aggregates : Bool) (text : List ℕ) (a : Expr) → (h : SpellsConstraint aggregates text a)
         → length text ≤ 262144 → deepest (lexemes text h.ts) ≤ 256 → AreSymbols text h.symbols }
+{}
+
+/// The names and terms of an expression that is read of a text can be written: the symbols of a text have
+/// values that can be written, and so has what they spell and what stands behind it.
+pub fn read_expressions_are_spelled()
+    ensures symbols { (text : List ℕ) (symbols : List Symbol) → AreSymbols text symbols → AreSpelledSymbols symbols }
+    ensures expressions { (aggregates : Bool) (symbols rest : List Symbol) (a : Expr) → AreSpelledSymbols symbols
+        → IsExpr aggregates symbols a rest → AreSpelledIn a × AreSpelledSymbols rest }
 {}
