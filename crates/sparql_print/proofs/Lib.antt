@@ -1,10 +1,13 @@
 pub mod BareShapes
+pub mod BehindTriples
 pub mod Constraints
 pub mod Gives
 pub mod Layers
 pub mod LiteralPieces
 pub mod LocalNames
 pub mod Pieces
+pub mod QueryExpressions
+pub mod ReadQueries
 pub mod ReadsBack
 pub mod Separate
 pub mod Shown

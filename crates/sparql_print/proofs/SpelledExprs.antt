@@ -18,10 +18,10 @@ use Rattle.sparql_print.specs.SpelledSymbols.{IsSpelledValue, AreSpelledSymbols}
 
 -- ---- terms
 
-is-rest : {shape : Shape} {ts rest : List Symbol} → Is shape ts rest → AreSpelledSymbols ts → AreSpelledSymbols rest
+pub is-rest : {shape : Shape} {ts rest : List Symbol} → Is shape ts rest → AreSpelledSymbols ts → AreSpelledSymbols rest
 is-rest is k = k.1
 
-holds-value : {shape : Shape} {value : List ℕ} {ts rest : List Symbol} → Holds shape value ts rest → AreSpelledSymbols ts → IsSpelledValue shape value × AreSpelledSymbols rest
+pub holds-value : {shape : Shape} {value : List ℕ} {ts rest : List Symbol} → Holds shape value ts rest → AreSpelledSymbols ts → IsSpelledValue shape value × AreSpelledSymbols rest
 holds-value holds k = k
 
 utf8-both : (sign digits : List ℕ) → IsTextOf sign sign → IsUtf8 digits → IsUtf8 (sign ++ digits)
@@ -50,7 +50,7 @@ number-spelled : {sign : List ℕ} {ts rest : List Symbol} {term : Term} → IsT
 number-spelled {sign} h (integer {digits = digits} i) k = let v = holds-value i k in ((utf8-both sign digits h v.0, inl (refl, integer_is_iri, integer_is_plain)), v.1)
 number-spelled {sign} h (decimal {digits = digits} i) k = let v = holds-value i k in ((utf8-both sign digits h v.0, inl (refl, decimal_is_iri, decimal_is_plain)), v.1)
 
-term-spelled : {ts rest : List Symbol} {term : Term} → IsTerm ts term rest → AreSpelledSymbols ts → IsConstant term × AreSpelledSymbols rest
+pub term-spelled : {ts rest : List Symbol} {term : Term} → IsTerm ts term rest → AreSpelledSymbols ts → IsConstant term × AreSpelledSymbols rest
 term-spelled (terms_of.iri i) k = holds-value i k
 term-spelled (terms_of.plain i) k = let v = holds-value i k in ((v.0, inl (refl, string_is_iri, string_is_plain)), v.1)
 term-spelled (terms_of.tagged i j) k = let v = holds-value i k in let w = holds-value j v.1 in ((v.0, inr (w.0, refl)), w.1)

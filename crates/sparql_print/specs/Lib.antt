@@ -2,5 +2,6 @@ pub mod Constraints
 pub mod ExprText
 pub mod Pieces
 pub mod Printed
+pub mod QueryExpressions
 pub mod Spelled
 pub mod SpelledSymbols

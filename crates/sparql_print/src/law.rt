@@ -2,14 +2,16 @@
 
 ghost use Rattle.std.specs.Prelude.{◌≡◌, ◌≤◌, ℕ, Bool, List, length};
 ghost use Rattle.sparql_tree.specs.Exprs.{Expr};
+ghost use Rattle.sparql_tree.specs.Groups.{Query};
 ghost use Rattle.sparql_symbol.specs.declared.symbol.Symbol.{Symbol};
 ghost use Rattle.sparql_symbol.specs.Refusals.{AreSymbols};
 ghost use Rattle.sparql_symbol.specs.Symbols.{lexemes};
 ghost use Rattle.sparql_symbol.specs.Unsupported.{deepest};
 ghost use Rattle.sparql_grammar.specs.Expressions.{IsExpr};
-ghost use Rattle.sparql_print.specs.Constraints.{SpellsConstraint};
-ghost use Rattle.sparql_print.specs.ExprText.{expr_text, in_parens};
+ghost use Rattle.sparql_grammar.specs.Trees as grammar;
+ghost use Rattle.sparql_print.specs.Constraints.{SpellsConstraint, ReadsBack};
 ghost use Rattle.sparql_print.specs.Printed.{IsTree};
+ghost use Rattle.sparql_print.specs.QueryExpressions.{EachExpression};
 ghost use Rattle.sparql_print.specs.Spelled.{AreSpelledIn};
 ghost use Rattle.sparql_print.specs.SpelledSymbols.{AreSpelledSymbols};
 
@@ -17,7 +19,7 @@ ghost use Rattle.sparql_print.specs.SpelledSymbols.{AreSpelledSymbols};
 /// that expression (SPARQL 1.1, 19.8, Constraint).
 pub fn text_reads_back()
     ensures { (aggregates : Bool) (a : Expr) → IsTree aggregates a → AreSpelledIn a
-        → SpellsConstraint aggregates (in_parens (expr_text a)) a }
+        → ReadsBack aggregates a }
 {}
 
 /// A text spells at most one expression as a constraint.
@@ -39,4 +41,9 @@ pub fn read_expressions_are_spelled()
     ensures symbols { (text : List ℕ) (symbols : List Symbol) → AreSymbols text symbols → AreSpelledSymbols symbols }
     ensures expressions { (aggregates : Bool) (symbols rest : List Symbol) (a : Expr) → AreSpelledSymbols symbols
         → IsExpr aggregates symbols a rest → AreSpelledIn a × AreSpelledSymbols rest }
+{}
+
+/// Each expression of a query that is read of a text, printed in parentheses, spells that expression.
+pub fn read_queries_read_back()
+    ensures { (text : List ℕ) (query : Query) → grammar.IsTree text query → EachExpression ReadsBack query }
 {}
