@@ -1,7 +1,7 @@
 -- A prefix's IRI with a local name behind it is an IRI.
-use Rattle.std.proofs.Common.{◌≡◌, ◌⊎◌, inl, inr, ℕ, Bool, true, false, cond, not, List, [], ◌∷◌, ◌++◌, codes, nat_lt, nat_le, refl, sym, ap, ◌∙◌, arith, encode_utf8_all}
+use Rattle.std.proofs.Common.{◌≡◌, inl, inr, ℕ, Bool, true, false, cond, not, List, [], ◌∷◌, ◌++◌, codes, nat_lt, nat_le, refl, sym, ap, ◌∙◌, arith, encode_utf8_all}
 use Rattle.std.proofs.lemmas.Bool.Decides.{nat_tests}
-use Rattle.std.specs.Prelude.{◌==◌, ◌||◌, ◌&&◌}
+use Rattle.std.specs.Prelude.{◌==◌, ◌||◌}
 use Rattle.std.specs.List.{list_all}
 use Rattle.std.specs.Str.{all_scalars}
 use Rattle.term_core.specs.Characters.{is_among, is_between, is_in_ranges, is_hex, is_letter, is_iri, is_pn, is_pn_u, is_pn_base, pn_base_ranges, pn_more_ranges, after, begins, AreAll}
@@ -65,7 +65,7 @@ hex-iri c h = grind (arith, nat_tests)
 escape-iri : (c : ℕ) → is_local_escape c ≡ true → is_iri c ≡ true
 escape-iri c h =
     among (λ v. is_iri v ≡ true) (codes "_~.-!$&'()*+,;=/?#@%") c
-        (refl, (refl, (refl, (refl, (refl, (refl, (refl, (refl, (refl, (refl, (refl, (refl, (refl, (refl, (refl, (refl, (refl, (refl, (refl, (refl, tt)))))))))))))))))))) h
+    (refl, (refl, (refl, (refl, (refl, (refl, (refl, (refl, (refl, (refl, (refl, (refl, (refl, (refl, (refl, (refl, (refl, (refl, (refl, (refl, tt)))))))))))))))))))) h
 
 -- a character more, unless it is a backslash
 kept : (c : ℕ) (text : List ℕ) → is_iri c ≡ true → AreAll is_iri (unescaped text) → AreAll is_iri (unescaped (c ∷ text))

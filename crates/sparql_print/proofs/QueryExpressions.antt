@@ -1,17 +1,16 @@
 -- Each expression of a query that is read of symbols is read of symbols.
-use Rattle.std.proofs.Common.{◌≡◌, Bool, true, false, cond, List, [], ◌∷◌, ◌++◌, Option, Some, None, refl, sym, subst}
-use Rattle.term_core.specs.Mappings.{Name}
+use Rattle.std.proofs.Common.{Bool, true, false, cond, List, [], ◌∷◌, ◌++◌, sym, subst}
 use Rattle.sparql_tree.specs.Exprs.{Expr}
 use Rattle.sparql_tree.specs.Groups.{Group, Element, elements, groups, SelectItem, GroupKey, OrderKey, Query}
 use Rattle.sparql_symbol.specs.declared.symbol.Symbol.{Symbol}
 use Rattle.sparql_grammar.specs.Expressions.{IsExpr, called, aggregated, variable}
 use Rattle.sparql_grammar.specs.Groups.{IsConstraint, constraint, constraint_call, constraint_aggregate, IsPoint, no_point, point, IsGroup, group, GroupTail, group_end, group_more, IsElement, union, optional, without, filter, bind, values, UnionTail, union_end, union_more}
 use Rattle.sparql_grammar.specs.Triples.{IsTriples, no_triples, triples}
-use Rattle.sparql_grammar.specs.Queries.{IsDistinctness, distinct_rows, reduced_rows, all_rows, IsItem, item_variable, item_value, ItemTail, item_end, item_more, IsSelection, select_star, select_items, IsWhere, where_word, no_where, IsKey, key_variable, key_call, key_value, key_named, KeyTail, key_end, key_more, IsGrouping, no_grouping, grouping, HavingTail, having_end, having_more, IsHaving, no_having, having, IsOrderKey, ascending, descending, order_constraint, order_variable, OrderTail, order_end, order_more, IsOrdering, no_ordering, ordering, IsSelect, select, IsQuery, repeats, variables, with_item, with_items, without_repeats}
+use Rattle.sparql_grammar.specs.Queries.{IsDistinctness, distinct_rows, reduced_rows, all_rows, IsItem, item_variable, item_value, ItemTail, item_end, item_more, IsSelection, select_star, select_items, IsWhere, where_word, no_where, IsKey, key_variable, key_call, key_value, key_named, KeyTail, key_end, key_more, IsGrouping, no_grouping, grouping, HavingTail, having_end, having_more, IsHaving, no_having, having, IsOrderKey, ascending, descending, order_constraint, order_variable, OrderTail, order_end, order_more, IsOrdering, no_ordering, ordering, IsSelect, select, IsQuery, repeats, variables, with_item, with_items}
 use Rattle.sparql_print.specs.SpelledSymbols.{AreSpelledSymbols}
 use Rattle.sparql_print.specs.QueryExpressions.{Fact, EachOfGroup, EachOfElements, EachOfGroups, EachOfElement, EachOfValue, EachOfItems, EachOfKeys, EachOfConditions, EachOfOrder, EachExpression}
 use Rattle.sparql_print.proofs.ReadsBack.{expr-of}
-use Rattle.sparql_print.proofs.SpelledExprs.{is-rest, expr-spelled, call-spelled, aggregate-spelled}
+use Rattle.sparql_print.proofs.SpelledExprs.{is-rest, expr-spelled}
 use Rattle.sparql_print.proofs.BehindTriples.{holds-rest, triples-rest, values-rest}
 
 point-rest : {ts rest : List Symbol} → IsPoint ts rest → AreSpelledSymbols ts → AreSpelledSymbols rest
@@ -145,4 +144,4 @@ module _ (fact : Fact) (read : (b : Bool) (ts rest : List Symbol) (a : Expr) →
   query-each ts query h k =
       let w = select-each h.spelled k in
       subst (EachExpression fact) (sym h.kept_once)
-          (record { items = all_kept-each [] h.written.items tt w.items; body = w.body; keys = w.keys; having = w.having; order = w.order })
+      (record { items = all_kept-each [] h.written.items tt w.items; body = w.body; keys = w.keys; having = w.having; order = w.order })

@@ -12,4 +12,4 @@ use Rattle.sparql_print.proofs.SpelledTokens.{text-spelled}
 pub query-reads-back : (text : List ℕ) (query : Query) → IsTree text query → EachExpression ReadsBack query
 query-reads-back text query h =
     query-each ReadsBack (λ b ts rest a e k. text-spells b a (record { tokens = ts; rest = rest; spelled = e }) (expr-spelled e k).0)
-        h.symbols query h.spelled (text-spelled text h.symbols h.are_symbols)
+    h.symbols query h.spelled (text-spelled text h.symbols h.are_symbols)

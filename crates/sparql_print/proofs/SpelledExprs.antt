@@ -1,5 +1,5 @@
 -- An expression that is read of symbols whose values can be written has names and terms that can be written.
-use Rattle.std.proofs.Common.{◌≡◌, ◌≢◌, inl, inr, ℕ, Bool, true, false, List, [], ◌∷◌, ◌++◌, length, codes, IsUtf8, refl, sym, ap, ◌∙◌, arith}
+use Rattle.std.proofs.Common.{◌≢◌, inl, inr, ℕ, Bool, List, [], ◌++◌, length, codes, IsUtf8, refl, ap, arith}
 use Rattle.term_core.specs.Characters.{IsTextOf}
 use Rattle.term_core.specs.Numbers.{xsd_integer, xsd_decimal}
 use Rattle.term_core.specs.Spelling.{lang_string, IsSpelledIri}

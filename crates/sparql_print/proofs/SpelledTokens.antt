@@ -1,5 +1,5 @@
 -- The symbols of a text have values that can be written.
-use Rattle.std.proofs.Common.{◌≡◌, inl, inr, ℕ, Bool, true, false, cond, List, [], ◌∷◌, ◌++◌, map, chars, IsUtf8, encode_utf8_all, codes, Option, Some, None, refl, sym, subst, ap}
+use Rattle.std.proofs.Common.{◌≡◌, inl, inr, ℕ, Bool, true, false, cond, List, [], ◌∷◌, ◌++◌, map, chars, IsUtf8, encode_utf8_all, codes, Option, Some, None, refl, sym, subst}
 use Rattle.std.specs.Char.{to_ascii_lowercase}
 use Rattle.std.specs.Str.{all_scalars, bytes_eq}
 use Rattle.std.proofs.lemmas.Str.{scalars-chars}
@@ -12,13 +12,13 @@ use Rattle.term_core.specs.declared.token.Kind.TheVariants as kinds
 use Rattle.sparql_symbol.specs.declared.symbol.Symbol.{Symbol}
 use Rattle.sparql_symbol.specs.Prologue.{Declaration, IsPrologue, ended, declared, IsAbsolute, no_prefixes, with_declaration, prefixes_over, prefixes_of}
 use Rattle.sparql_symbol.specs.Refusals.{AreSymbols}
-use Rattle.sparql_symbol.specs.Symbols.{Lexeme, Prefixes, lexemes, iri_symbol, name_symbol, unescaped, word_symbol, IsStringSymbol, IsSymbolOf, AreSymbolsOf}
+use Rattle.sparql_symbol.specs.Symbols.{Lexeme, Prefixes, iri_symbol, name_symbol, unescaped, word_symbol, IsStringSymbol, IsSymbolOf, AreSymbolsOf}
 use Rattle.sparql_symbol.specs.Words.{is_word, word_shape, sign_shape}
 use Rattle.sparql_symbol.proofs.Frames.{scalars-front, scalars-behind}
 use Rattle.sparql_symbol.proofs.Judged.{text-lexemes, rest-lexemes}
 use Rattle.sparql_symbol.proofs.Standing.{AreLexemes}
 use Rattle.nt_text.proofs.Cut.{scheme_encoded}
-use Rattle.nt_text.proofs.SpelledTerms.{scalars_parts, scalars_both, string_escape_scalar, spelled_scalars, spelled_class, lower_tag, lower_twice}
+use Rattle.nt_text.proofs.SpelledTerms.{scalars_parts, string_escape_scalar, spelled_scalars, spelled_class, lower_tag, lower_twice}
 use Rattle.nt_text.proofs.TagLaws.{tag_encoded}
 use Rattle.sparql_print.specs.Spelled.{IsSpelledName}
 use Rattle.sparql_print.specs.SpelledSymbols.{IsSpelledSymbol, AreSpelledSymbols}
@@ -89,7 +89,7 @@ long-scalars scalars (long.escape {c = c} {escape = e} {text = text} p h) = rw (
 string-spelled : (text : List ℕ) (symbol : Symbol) → IsUtf8 text → IsStringSymbol (chars text) symbol → IsSpelledSymbol symbol
 string-spelled text symbol utf8 (inl (h, e)) =
     subst IsSpelledSymbol (sym e)
-        (h.value, (spelled_scalars string_escape_scalar (inner-scalars text (h.quote ∷ []) h.body (h.quote ∷ []) utf8 h.spelled) h.is_body, refl))
+    (h.value, (spelled_scalars string_escape_scalar (inner-scalars text (h.quote ∷ []) h.body (h.quote ∷ []) utf8 h.spelled) h.is_body, refl))
 string-spelled text symbol utf8 (inr (h, e)) =
     let three = h.quote ∷ h.quote ∷ h.quote ∷ [] in
     subst IsSpelledSymbol (sym e) (h.value, (long-scalars (inner-scalars text three h.body three utf8 h.spelled) h.is_body, refl))
@@ -102,7 +102,7 @@ word-spelled : (text : List ℕ) → IsSpelledSymbol (word_symbol text)
 unfolding lib.Utf8.encode
 word-spelled text =
     by_test (is_word text (codes "true")) _ _ (λ e. (codes "true", (refl, refl)))
-        (by_test (is_word text (codes "false")) _ _ (λ e. (codes "false", (refl, refl))) (bare-spelled (word_shape text) (word-bare text)))
+    (by_test (is_word text (codes "false")) _ _ (λ e. (codes "false", (refl, refl))) (bare-spelled (word_shape text) (word-bare text)))
 
 -- ---- symbols
 

@@ -12,14 +12,17 @@ unfoldable mutual
   pub EachOfGroup : Fact → Group → Type 0
   EachOfGroup fact (GroupOf elements) = EachOfElements fact elements
 
+  -- of each part's, in order
   pub EachOfElements : Fact → Elements → Type 0
   EachOfElements fact EndOfElements = Unit {0}
   EachOfElements fact (ThenElement first rest) = EachOfElement fact first × EachOfElements fact rest
 
+  -- of each group's, in order
   pub EachOfGroups : Fact → Groups → Type 0
   EachOfGroups fact EndOfGroups = Unit {0}
   EachOfGroups fact (ThenGroup first rest) = EachOfGroup fact first × EachOfGroups fact rest
 
+  -- of those of a part (SPARQL 1.1 19.8, Filter and Bind)
   pub EachOfElement : Fact → Element → Type 0
   EachOfElement fact (Triples patterns) = Unit {0}
   EachOfElement fact (Union groups) = EachOfGroups fact groups

@@ -1,4 +1,4 @@
-//! Expressions and their texts, worked by hand (SPARQL 1.1, section 19.8, rules 107 to 127).
+//! Expressions and their texts, worked by hand (SPARQL 1.1, section 19.8, rules 110 to 127).
 
 use crate::print_expr;
 use sparql_grammar::read_tree;
@@ -220,4 +220,45 @@ fn reads_aggregates_back(rt: HostRuntime) {
     assert!(rt; reads_back(alloc, "sum(distinct ?a)", "SUM ( DISTINCT ?a )"));
     assert!(rt; reads_back(alloc, "avg(?a / ?b)", "AVG ( ( ?a / ?b ) )"));
     assert!(rt; reads_back(alloc, "min(?a) < max(?b)", "( MIN ( ?a ) < MAX ( ?b ) )"));
+}
+
+/// A text so many times.
+fn push_times(text: &mut String, piece: &str, times: usize) -> Result<(), Memory> {
+    for _ in 0..times {
+        text.push_str(piece)?;
+    }
+    Ok(())
+}
+
+/// `( ! ( ! .. ?a ) )`, so deep.
+fn nested(alloc: Global, depth: usize) -> Result<String, Memory> {
+    let mut text = String::new(alloc);
+    push_times(&mut text, "( ! ", depth)?;
+    text.push_str("?a")?;
+    push_times(&mut text, " )", depth)?;
+    Ok(text)
+}
+
+/// `( ?a || ?a .. )`, with so many more parts than one.
+fn chained(alloc: Global, more: usize) -> Result<String, Memory> {
+    let mut text = String::from_str(alloc, "( ?a")?;
+    push_times(&mut text, " || ?a", more)?;
+    text.push_str(" )")?;
+    Ok(text)
+}
+
+fn is_read_as_itself(alloc: Global, made: Result<String, Memory>) -> bool {
+    match made {
+        Ok(text) => is_read_as(alloc, text.as_str(), text.as_str()),
+        Err(_) => false,
+    }
+}
+
+/// With the query's own parenthesis 256 are open at one place, which is the limit.
+#[test]
+fn reads_deep_and_long_back(rt: HostRuntime) {
+    let alloc = rt.alloc();
+    assert!(rt; is_read_as_itself(alloc, nested(alloc, 255)));
+    assert!(rt; !is_read_as_itself(alloc, nested(alloc, 256)));
+    assert!(rt; is_read_as_itself(alloc, chained(alloc, 2000)));
 }
