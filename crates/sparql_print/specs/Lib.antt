@@ -1,5 +1,6 @@
 pub mod Constraints
 pub mod ExprText
+pub mod PartText
 pub mod Pieces
 pub mod Printed
 pub mod QueryExpressions
