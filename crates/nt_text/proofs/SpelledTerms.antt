@@ -58,12 +58,12 @@ echar_scalars letter =
     either IsScalar (eqb letter 116) _ _ refl (either IsScalar (eqb letter 98) _ _ refl (either IsScalar (eqb letter 110) _ _ refl (either IsScalar (eqb letter 114) _ _ refl
     (either IsScalar (eqb letter 102) _ _ refl (either IsScalar (eqb letter 34) _ _ refl (either IsScalar (eqb letter 39) _ _ refl (either IsScalar (eqb letter 92) _ _ refl tt)))))))
 
-string_escape_scalar : (text : List ℕ) (c : ℕ) → IsStringEscape text c → IsScalar c
+pub string_escape_scalar : (text : List ℕ) (c : ℕ) → IsStringEscape text c → IsScalar c
 string_escape_scalar text c (inl uchar) = uchar.scalar
 string_escape_scalar text c (inr echar) = subst (Maybe IsScalar) echar.value (echar_scalars echar.letter)
 
 -- what a text with escapes spells is of scalar values
-spelled_scalars : {plain : ℕ → Bool} {IsEscape : List ℕ → ℕ → Type 0} {text value : List ℕ} → ((e : List ℕ) (c : ℕ) → IsEscape e c → IsScalar c) → all_scalars text ≡ true → IsEscaped plain IsEscape text value
+pub spelled_scalars : {plain : ℕ → Bool} {IsEscape : List ℕ → ℕ → Type 0} {text value : List ℕ} → ((e : List ℕ) (c : ℕ) → IsEscape e c → IsScalar c) → all_scalars text ≡ true → IsEscaped plain IsEscape text value
     → all_scalars value ≡ true
 spelled_scalars escapes scalars nothing = refl
 spelled_scalars escapes scalars (character {c} {text} {value} plain more) = let a = scalars_parts c text scalars in rw a.0 (spelled_scalars escapes a.1 more)
@@ -71,7 +71,7 @@ spelled_scalars escapes scalars (escape {c} {escape = e} {text} {value} is more)
     let a = scalars_front e text scalars in rw (escapes e c is) (spelled_scalars escapes a.1 more)
 
 -- and of the class that its escapes keep to
-spelled_class : {plain : ℕ → Bool} {IsEscape : List ℕ → ℕ → Type 0} {text value : List ℕ} → ((e : List ℕ) (c : ℕ) → IsEscape e c → plain c ≡ true) → IsEscaped plain IsEscape text value → AreAll plain value
+pub spelled_class : {plain : ℕ → Bool} {IsEscape : List ℕ → ℕ → Type 0} {text value : List ℕ} → ((e : List ℕ) (c : ℕ) → IsEscape e c → plain c ≡ true) → IsEscaped plain IsEscape text value → AreAll plain value
 spelled_class escapes nothing = refl
 spelled_class escapes (character {c} {text} {value} plain more) = rw plain (spelled_class escapes more)
 spelled_class escapes (escape {c} {escape = e} {text} {value} is more) = rw (escapes e c is) (spelled_class escapes more)
@@ -137,7 +137,7 @@ lower_subtags no_subtag = no_subtag
 lower_subtags (subtag {tag} {rest} some all more) =
     subst (λ t. AreSubtags (45 ∷ t)) (sym (lower_append tag rest)) (subtag (lower_some tag some) (lower_all is_alphanumeric lower_alphanumeric tag all) (lower_subtags more))
 
-lower_tag : (tag : List ℕ) → IsTag tag → IsTag (map to_ascii_lowercase tag)
+pub lower_tag : (tag : List ℕ) → IsTag tag → IsTag (map to_ascii_lowercase tag)
 lower_tag tag h = record {
   primary = map to_ascii_lowercase h.primary;
   subtags = map to_ascii_lowercase h.subtags;
@@ -150,7 +150,7 @@ lower_tag tag h = record {
 lower_once : (c : ℕ) → to_ascii_lowercase (to_ascii_lowercase c) ≡ to_ascii_lowercase c
 lower_once c = grind (arith, nat_tests)
 
-lower_twice : (text : List ℕ) → map to_ascii_lowercase (map to_ascii_lowercase text) ≡ map to_ascii_lowercase text
+pub lower_twice : (text : List ℕ) → map to_ascii_lowercase (map to_ascii_lowercase text) ≡ map to_ascii_lowercase text
 lower_twice [] = refl
 lower_twice (c ∷ text) = λ i. lower_once c i ∷ lower_twice text i
 
@@ -168,10 +168,10 @@ lang_parts text lang rest scalars h =
 -- ---- literals and triples
 
 -- the datatype of plain strings is an IRI
-string_is_iri : IsSpelledIri xsd_string
+pub string_is_iri : IsSpelledIri xsd_string
 string_is_iri = record { characters = xsd_string; is_text = record { scalars = refl; encoded = small_encoded xsd_string refl }; of_class = refl; scheme = refl }
 
-string_is_plain : xsd_string ≢ lang_string
+pub string_is_plain : xsd_string ≢ lang_string
 string_is_plain = λ e. absurd (omega (arith, ap length e))
 
 literal_parts : (text lexical datatype lang rest : List ℕ) → IsScalars text → IsLiteral text lexical datatype lang rest → IsSpelled (terms.Literal lexical datatype lang) × IsScalars rest

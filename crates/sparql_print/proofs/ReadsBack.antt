@@ -49,7 +49,7 @@ expr-of h = of-rel (rel-of h)
 -- ---- terms, signs and words
 
 -- a tag is of one letter at least
-tag_some : IsSpelledTag [] → ⊥
+pub tag_some : IsSpelledTag [] → ⊥
 tag_some h = go h.is_tag.primary h.is_tag.subtags h.is_tag.some h.is_tag.spelled
   where
     go : (primary subtags : List ℕ) → primary ≢ [] → [] ≡ primary ++ subtags → ⊥

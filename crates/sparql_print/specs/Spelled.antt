@@ -39,10 +39,12 @@ unfoldable mutual
   AreSpelledIn (Aggregate kind distinct argument) = AreSpelledIn argument
   AreSpelledIn (AggregateAll kind distinct) = Unit {0}
 
+  -- of each expression of a list
   pub AreSpelledInAll : Exprs → Type 0
   AreSpelledInAll EndOfExprs = Unit {0}
   AreSpelledInAll (ThenExpr first rest) = AreSpelledIn first × AreSpelledInAll rest
 
+  -- of each operand
   pub AreSpelledInOperands : Operands → Type 0
   AreSpelledInOperands EndOfOperands = Unit {0}
   AreSpelledInOperands (ThenOperand inverse value rest) = AreSpelledIn value × AreSpelledInOperands rest

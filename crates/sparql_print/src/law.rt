@@ -1,15 +1,49 @@
 //! Laws of printed expressions. Each is the contract of a function that does nothing.
 
-ghost use Rattle.std.specs.Prelude.{Bool, List};
+ghost use Rattle.std.specs.Prelude.{◌≡◌, ◌≤◌, ℕ, Bool, List, length};
 ghost use Rattle.sparql_tree.specs.Exprs.{Expr};
+ghost use Rattle.sparql_tree.specs.Groups.{Query};
 ghost use Rattle.sparql_symbol.specs.declared.symbol.Symbol.{Symbol};
-ghost use Rattle.sparql_grammar.specs.Expressions.{IsAtom};
-ghost use Rattle.sparql_print.specs.Printed.{IsTree, expr_symbols};
+ghost use Rattle.sparql_symbol.specs.Refusals.{AreSymbols};
+ghost use Rattle.sparql_symbol.specs.Symbols.{lexemes};
+ghost use Rattle.sparql_symbol.specs.Unsupported.{deepest};
+ghost use Rattle.sparql_grammar.specs.Expressions.{IsExpr};
+ghost use Rattle.sparql_grammar.specs.Trees as grammar;
+ghost use Rattle.sparql_print.specs.Constraints.{SpellsConstraint, ReadsBack};
+ghost use Rattle.sparql_print.specs.Printed.{IsTree};
+ghost use Rattle.sparql_print.specs.QueryExpressions.{EachExpression};
 ghost use Rattle.sparql_print.specs.Spelled.{AreSpelledIn};
+ghost use Rattle.sparql_print.specs.SpelledSymbols.{AreSpelledSymbols};
 
-/// The symbols of an expression of a tree are, whatever stands behind them, one operand of the grammar
-/// with that expression.
-pub fn symbols_read_back()
-    ensures { (aggregates : Bool) (a : Expr) (rest : List Symbol) → IsTree aggregates a → AreSpelledIn a
-        → IsAtom aggregates (expr_symbols a rest) a rest }
+/// The text of an expression of a tree, whose names and terms can be written, spells in parentheses
+/// that expression (SPARQL 1.1, 19.8, Constraint).
+pub fn text_reads_back()
+    ensures { (aggregates : Bool) (a : Expr) → IsTree aggregates a → AreSpelledIn a
+        → ReadsBack aggregates a }
+{}
+
+/// A text spells at most one expression as a constraint.
+pub fn one_constraint()
+    ensures { (aggregates : Bool) (text : List ℕ) (a b : Expr)
+        → SpellsConstraint aggregates text a → SpellsConstraint aggregates text b → a ≡ b }
+{}
+
+/// A text that spells a constraint is not refused, unless for its size or its nesting, and its symbols
+/// are those of the constraint.
+pub fn constraints_have_symbols()
+    ensures { (aggregates : Bool) (text : List ℕ) (a : Expr) → (h : SpellsConstraint aggregates text a)
+        → length text ≤ 262144 → deepest (lexemes text h.ts) ≤ 256 → AreSymbols text h.symbols }
+{}
+
+/// The names and terms of an expression that is read of a text can be written: the symbols of a text have
+/// values that can be written, and so has what they spell and what stands behind it.
+pub fn read_expressions_are_spelled()
+    ensures symbols { (text : List ℕ) (symbols : List Symbol) → AreSymbols text symbols → AreSpelledSymbols symbols }
+    ensures expressions { (aggregates : Bool) (symbols rest : List Symbol) (a : Expr) → AreSpelledSymbols symbols
+        → IsExpr aggregates symbols a rest → AreSpelledIn a × AreSpelledSymbols rest }
+{}
+
+/// Each expression of a query that is read of a text, printed in parentheses, spells that expression.
+pub fn read_queries_read_back()
+    ensures { (text : List ℕ) (query : Query) → grammar.IsTree text query → EachExpression ReadsBack query }
 {}

@@ -1,8 +1,8 @@
 //! Expressions and their texts, worked by hand (SPARQL 1.1, section 19.8, rules 110 to 127).
 
 use crate::print_expr;
-use sparql_symbol::{Shape, Symbol, symbols};
-use sparql_tree::{AggregateKind, CompareOp, Expr, Factor, Function, Signed};
+use sparql_grammar::read_tree;
+use sparql_tree::{CompareOp, Expr, Query};
 use std::alloc::Global;
 use term_core::{Memory, Term, Text};
 
@@ -18,121 +18,70 @@ fn literal(alloc: Global, lexical: &str, datatype: &str, lang: &str) -> Result<E
     }))
 }
 
-fn iri(alloc: Global, iri: &str) -> Result<Expr, Memory> {
-    Ok(Expr::Const(Term::Iri(Text::from_str(alloc, iri)?)))
-}
-
-/// `?a` and `?b`.
-fn two(alloc: Global) -> Result<Vec<Expr>, Memory> {
+fn either(alloc: Global) -> Result<Expr, Memory> {
     let mut parts = Vec::new(alloc);
     parts.push(variable(alloc, "a")?)?;
     parts.push(variable(alloc, "b")?)?;
-    Ok(parts)
+    Ok(Expr::or(parts))
+}
+
+fn compared(alloc: Global) -> Result<Expr, Memory> {
+    let left = either(alloc)?;
+    let right = variable(alloc, "c")?;
+    Expr::compare(alloc, CompareOp::Le, left, right)
 }
 
 fn is_printed(alloc: Global, made: Result<Expr, Memory>, text: &str) -> bool {
     match made {
-        Ok(e) => match print_expr(alloc, &e) {
-            Ok(printed) => printed.as_str() == text,
+        Ok(e) => has_text(alloc, &e, text),
+        Err(_) => false,
+    }
+}
+
+fn has_text(alloc: Global, e: &Expr, text: &str) -> bool {
+    match print_expr(alloc, e) {
+        Ok(printed) => printed.as_str() == text,
+        Err(_) => false,
+    }
+}
+
+/// A query with this text in parentheses as a condition behind which aggregates may stand.
+fn query_with(alloc: Global, constraint: &str) -> Result<String, Memory> {
+    let mut text = String::from_str(alloc, "SELECT ?a { } GROUP BY ?a HAVING ( ")?;
+    text.push_str(constraint)?;
+    text.push_str(" )")?;
+    Ok(text)
+}
+
+fn has_condition(alloc: Global, query: &Query, text: &str) -> bool {
+    match query.having.as_slice() {
+        [only] => has_text(alloc, only, text),
+        _ => false,
+    }
+}
+
+/// Whether the first text is of an expression with the second as its printed text.
+fn is_read_as(alloc: Global, constraint: &str, printed: &str) -> bool {
+    match query_with(alloc, constraint) {
+        Ok(text) => match read_tree(alloc, text.as_str().as_bytes()) {
+            Ok(query) => has_condition(alloc, &query, printed),
             Err(_) => false,
         },
         Err(_) => false,
     }
 }
 
-fn chain(alloc: Global, all: bool) -> Result<Expr, Memory> {
-    let parts = two(alloc)?;
-    if all {
-        Ok(Expr::and(parts))
-    } else {
-        Ok(Expr::or(parts))
-    }
-}
-
-fn compared(alloc: Global, op: CompareOp) -> Result<Expr, Memory> {
-    let left = chain(alloc, false)?;
-    let right = iri(alloc, "a:b")?;
-    Expr::compare(alloc, op, left, right)
-}
-
-fn negated(alloc: Global) -> Result<Expr, Memory> {
-    let value = variable(alloc, "a")?;
-    Expr::not(alloc, value)
-}
-
-fn lessened(alloc: Global) -> Result<Expr, Memory> {
-    let value = variable(alloc, "a")?;
-    Expr::minus(alloc, value)
-}
-
-fn within(alloc: Global) -> Result<Expr, Memory> {
-    let left = variable(alloc, "c")?;
-    let items = two(alloc)?;
-    Expr::one_of(alloc, left, items, false)
-}
-
-fn nowhere(alloc: Global) -> Result<Expr, Memory> {
-    let left = variable(alloc, "c")?;
-    Expr::one_of(alloc, left, Vec::new(alloc), true)
-}
-
-fn difference(alloc: Global) -> Result<Expr, Memory> {
-    let first = variable(alloc, "a")?;
-    let value = variable(alloc, "b")?;
-    let mut rest = Vec::new(alloc);
-    rest.push(Signed { minus: true, value })?;
-    Expr::sum(alloc, first, rest)
-}
-
-fn quotient(alloc: Global) -> Result<Expr, Memory> {
-    let first = variable(alloc, "a")?;
-    let value = variable(alloc, "b")?;
-    let mut rest = Vec::new(alloc);
-    rest.push(Factor {
-        divide: true,
-        value,
-    })?;
-    Expr::product(alloc, first, rest)
-}
-
-fn called(alloc: Global, function: Function) -> Result<Expr, Memory> {
-    let arguments = two(alloc)?;
-    Ok(Expr::call(function, arguments))
-}
-
-fn counted(alloc: Global, distinct: bool) -> Result<Expr, Memory> {
-    let argument = variable(alloc, "a")?;
-    Expr::aggregate(alloc, AggregateKind::Count, distinct, argument)
-}
-
-fn are_shapes(found: &[Symbol], expected: &[Shape]) -> bool {
-    found.len() == expected.len()
-        && found
-            .iter()
-            .zip(expected)
-            .all(|(symbol, shape)| symbol.shape == *shape)
-}
-
-fn is_read(alloc: Global, text: &str, expected: &[Shape]) -> bool {
-    match symbols(alloc, text.as_bytes()) {
-        Ok(found) => are_shapes(found.as_slice(), expected),
-        Err(_) => false,
-    }
+/// Whether an expression that is written so is printed so, and what is printed reads back.
+fn reads_back(alloc: Global, written: &str, printed: &str) -> bool {
+    is_read_as(alloc, written, printed) && is_read_as(alloc, printed, printed)
 }
 
 #[test]
-fn prints_leaves(rt: HostRuntime) {
+fn prints_what_is_built(rt: HostRuntime) {
     let alloc = rt.alloc();
     let string = "http://www.w3.org/2001/XMLSchema#string";
-    let integer = "http://www.w3.org/2001/XMLSchema#integer";
     let tagged = "http://www.w3.org/1999/02/22-rdf-syntax-ns#langString";
-    assert!(rt;
-        is_printed(
-            alloc,
-            literal(alloc, "5", integer, ""),
-            "\"5\"^^<http://www.w3.org/2001/XMLSchema#integer>"
-        )
-    );
+    assert!(rt; is_printed(alloc, variable(alloc, "a1"), "?a1"));
     assert!(rt;
         is_printed(
             alloc,
@@ -141,124 +90,175 @@ fn prints_leaves(rt: HostRuntime) {
         )
     );
     assert!(rt; is_printed(alloc, literal(alloc, "", tagged, "en"), "\"\"@en"));
-    assert!(rt; is_printed(alloc, variable(alloc, "a1"), "?a1"));
-    assert!(rt; is_printed(alloc, iri(alloc, "a:b"), "<a:b>"));
+    assert!(rt; is_printed(alloc, either(alloc), "( ?a || ?b )"));
+    assert!(rt; is_printed(alloc, compared(alloc), "( ( ?a || ?b ) <= ?c )"));
 }
 
 #[test]
-fn prints_operators(rt: HostRuntime) {
+fn reads_names_back(rt: HostRuntime) {
     let alloc = rt.alloc();
-    assert!(rt; is_printed(alloc, chain(alloc, false), "( ?a || ?b )"));
-    assert!(rt; is_printed(alloc, chain(alloc, true), "( ?a && ?b )"));
-    assert!(rt; is_printed(alloc, negated(alloc), "( ! ?a )"));
-    assert!(rt; is_printed(alloc, lessened(alloc), "( - ?a )"));
-    assert!(rt;
-        is_printed(
-            alloc,
-            compared(alloc, CompareOp::Le),
-            "( ( ?a || ?b ) <= <a:b> )"
-        )
-    );
-    assert!(rt; is_printed(alloc, within(alloc), "( ?c IN ( ?a , ?b ) )"));
-    assert!(rt; is_printed(alloc, nowhere(alloc), "( ?c NOT IN ( ) )"));
-    assert!(rt; is_printed(alloc, difference(alloc), "( ?a - ?b )"));
-    assert!(rt; is_printed(alloc, quotient(alloc), "( ?a / ?b )"));
+    assert!(rt; reads_back(alloc, "?a1", "?a1"));
+    assert!(rt; reads_back(alloc, "$0_b", "?0_b"));
+    assert!(rt; reads_back(alloc, "?na\u{ef}ve", "?na\u{ef}ve"));
+    assert!(rt; reads_back(alloc, "?\u{5909}\u{6570}", "?\u{5909}\u{6570}"));
+    assert!(rt; reads_back(alloc, "<a:b>", "<a:b>"));
+    assert!(rt; reads_back(alloc, "<a:\\u00E9>", "<a:\u{e9}>"));
 }
 
 #[test]
-fn prints_calls(rt: HostRuntime) {
+fn reads_strings_back(rt: HostRuntime) {
     let alloc = rt.alloc();
-    assert!(rt; is_printed(alloc, called(alloc, Function::Concat), "CONCAT ( ?a , ?b )"));
+    assert!(rt; reads_back(alloc, "\"\"", "\"\""));
+    assert!(rt; reads_back(alloc, "'it\\'s \"so\"'", "\"it's \\\"so\\\"\""));
+    assert!(rt; reads_back(alloc, "\"\"\"a\n\"b\"\\\\\"\"\"", "\"a\\n\\\"b\\\"\\\\\""));
+    assert!(rt; reads_back(alloc, "\"\\t\\u00e9\\r\"", "\"\t\u{e9}\\r\""));
+    assert!(rt; reads_back(alloc, "'a'@EN-us", "\"a\"@en-us"));
+    assert!(rt; reads_back(alloc, "\"a\" ^^ <b:c>", "\"a\"^^<b:c>"));
     assert!(rt;
-        is_printed(
+        reads_back(
             alloc,
-            Ok(Expr::call(Function::Coalesce, Vec::new(alloc))),
-            "COALESCE ( )"
-        )
-    );
-    assert!(rt; is_printed(alloc, counted(alloc, false), "COUNT ( ?a )"));
-    assert!(rt; is_printed(alloc, counted(alloc, true), "COUNT ( DISTINCT ?a )"));
-    assert!(rt;
-        is_printed(
-            alloc,
-            Ok(Expr::aggregate_all(AggregateKind::Count, false)),
-            "COUNT ( * )"
+            "\"a\"^^<http://www.w3.org/2001/XMLSchema#string>",
+            "\"a\""
         )
     );
 }
 
-/// Texts as they are printed, and what their tokens are.
 #[test]
-fn printed_texts_have_symbols(rt: HostRuntime) {
+fn reads_numbers_back(rt: HostRuntime) {
+    let alloc = rt.alloc();
+    let five = "\"5\"^^<http://www.w3.org/2001/XMLSchema#integer>";
+    let decimal = "\"-1.50\"^^<http://www.w3.org/2001/XMLSchema#decimal>";
+    let truth = "\"true\"^^<http://www.w3.org/2001/XMLSchema#boolean>";
+    assert!(rt; reads_back(alloc, "5", five));
+    assert!(rt; reads_back(alloc, "-1.50", decimal));
+    assert!(rt; reads_back(alloc, "TRUE", truth));
+    assert!(rt;
+        reads_back(
+            alloc,
+            "?a - -5",
+            "( ?a - \"-5\"^^<http://www.w3.org/2001/XMLSchema#integer> )"
+        )
+    );
+    assert!(rt;
+        reads_back(
+            alloc,
+            "- (5)",
+            "( - \"5\"^^<http://www.w3.org/2001/XMLSchema#integer> )"
+        )
+    );
+}
+
+#[test]
+fn reads_operators_back(rt: HostRuntime) {
+    let alloc = rt.alloc();
+    assert!(rt; reads_back(alloc, "?a||?b||?c", "( ?a || ?b || ?c )"));
+    assert!(rt; reads_back(alloc, "(?a||?b)||?c", "( ( ?a || ?b ) || ?c )"));
+    assert!(rt; reads_back(alloc, "?a&&?b", "( ?a && ?b )"));
+    assert!(rt; reads_back(alloc, "!?a", "( ! ?a )"));
+    assert!(rt; reads_back(alloc, "+?a", "( + ?a )"));
+    assert!(rt; reads_back(alloc, "-?a", "( - ?a )"));
+    assert!(rt; reads_back(alloc, "?a=?b", "( ?a = ?b )"));
+    assert!(rt; reads_back(alloc, "?a!=?b", "( ?a != ?b )"));
+    assert!(rt; reads_back(alloc, "?a<?b", "( ?a < ?b )"));
+    assert!(rt; reads_back(alloc, "?a>?b", "( ?a > ?b )"));
+    assert!(rt; reads_back(alloc, "?a<=?b", "( ?a <= ?b )"));
+    assert!(rt; reads_back(alloc, "?a>=?b", "( ?a >= ?b )"));
+    assert!(rt; reads_back(alloc, "?a in (?b, <c:d>)", "( ?a IN ( ?b , <c:d> ) )"));
+    assert!(rt; reads_back(alloc, "?a not in ()", "( ?a NOT IN ( ) )"));
+    assert!(rt; reads_back(alloc, "?a+?b-?c", "( ?a + ?b - ?c )"));
+    assert!(rt; reads_back(alloc, "?a*?b/?c", "( ?a * ?b / ?c )"));
+}
+
+#[test]
+fn reads_precedence_back(rt: HostRuntime) {
     let alloc = rt.alloc();
     assert!(rt;
-        is_read(
+        reads_back(
             alloc,
-            "\"5\"^^<http://www.w3.org/2001/XMLSchema#integer>",
-            &[Shape::Quoted, Shape::Typed, Shape::Iri]
-        )
-    );
-    assert!(rt; is_read(alloc, "\"\"@en", &[Shape::Quoted, Shape::Tag]));
-    assert!(rt;
-        is_read(
-            alloc,
-            "( ?a || ?b )",
-            &[Shape::Open, Shape::Var, Shape::Or, Shape::Var, Shape::Close]
+            "?a || ?b && ?c = ?d + ?e * ! ?f",
+            "( ?a || ( ?b && ( ?c = ( ?d + ( ?e * ( ! ?f ) ) ) ) ) )"
         )
     );
     assert!(rt;
-        is_read(
+        reads_back(
             alloc,
-            "( ?c NOT IN ( ) )",
-            &[
-                Shape::Open,
-                Shape::Var,
-                Shape::Not,
-                Shape::In,
-                Shape::Open,
-                Shape::Close,
-                Shape::Close
-            ]
+            "(((?a || ?b)) && ?c) = ((?d + ?e) * (?f))",
+            "( ( ( ?a || ?b ) && ?c ) = ( ( ?d + ?e ) * ?f ) )"
         )
     );
-    assert!(rt;
-        is_read(
-            alloc,
-            "( ?a * ?b / ?c )",
-            &[
-                Shape::Open,
-                Shape::Var,
-                Shape::Star,
-                Shape::Var,
-                Shape::Slash,
-                Shape::Var,
-                Shape::Close
-            ]
-        )
-    );
-    assert!(rt;
-        is_read(
-            alloc,
-            "ISIRI ( ?a )",
-            &[
-                Shape::Function(Function::IsIri),
-                Shape::Open,
-                Shape::Var,
-                Shape::Close
-            ]
-        )
-    );
-    assert!(rt;
-        is_read(
-            alloc,
-            "MIN ( DISTINCT ?a )",
-            &[
-                Shape::Aggregate(AggregateKind::Min),
-                Shape::Open,
-                Shape::Distinct,
-                Shape::Var,
-                Shape::Close
-            ]
-        )
-    );
+    assert!(rt; reads_back(alloc, "?a - (?b - ?c) - ?d", "( ?a - ( ?b - ?c ) - ?d )"));
+    assert!(rt; reads_back(alloc, "!(!(!(-?a)))", "( ! ( ! ( ! ( - ?a ) ) ) )"));
+}
+
+#[test]
+fn reads_calls_back(rt: HostRuntime) {
+    let alloc = rt.alloc();
+    assert!(rt; reads_back(alloc, "bound(?a)", "BOUND ( ?a )"));
+    assert!(rt; reads_back(alloc, "sameTerm(?a, ?b)", "SAMETERM ( ?a , ?b )"));
+    assert!(rt; reads_back(alloc, "isURI(?a)", "ISIRI ( ?a )"));
+    assert!(rt; reads_back(alloc, "isBlank(?a)", "ISBLANK ( ?a )"));
+    assert!(rt; reads_back(alloc, "isLiteral(?a)", "ISLITERAL ( ?a )"));
+    assert!(rt; reads_back(alloc, "isNumeric(?a)", "ISNUMERIC ( ?a )"));
+    assert!(rt; reads_back(alloc, "if(?a, ?b, ?c)", "IF ( ?a , ?b , ?c )"));
+    assert!(rt; reads_back(alloc, "coalesce()", "COALESCE ( )"));
+    assert!(rt; reads_back(alloc, "str(lang(?a))", "STR ( LANG ( ?a ) )"));
+    assert!(rt; reads_back(alloc, "datatype(?a)", "DATATYPE ( ?a )"));
+    assert!(rt; reads_back(alloc, "strlen(?a)", "STRLEN ( ?a )"));
+    assert!(rt; reads_back(alloc, "strStarts(?a, 'b')", "STRSTARTS ( ?a , \"b\" )"));
+    assert!(rt; reads_back(alloc, "strEnds(?a, 'b')", "STRENDS ( ?a , \"b\" )"));
+    assert!(rt; reads_back(alloc, "contains(?a, 'b')", "CONTAINS ( ?a , \"b\" )"));
+    assert!(rt; reads_back(alloc, "concat(?a, ?b)", "CONCAT ( ?a , ?b )"));
+    assert!(rt; reads_back(alloc, "abs(?a * ?b)", "ABS ( ( ?a * ?b ) )"));
+}
+
+#[test]
+fn reads_aggregates_back(rt: HostRuntime) {
+    let alloc = rt.alloc();
+    assert!(rt; reads_back(alloc, "count(*)", "COUNT ( * )"));
+    assert!(rt; reads_back(alloc, "count(distinct *)", "COUNT ( DISTINCT * )"));
+    assert!(rt; reads_back(alloc, "count(?a)", "COUNT ( ?a )"));
+    assert!(rt; reads_back(alloc, "sum(distinct ?a)", "SUM ( DISTINCT ?a )"));
+    assert!(rt; reads_back(alloc, "avg(?a / ?b)", "AVG ( ( ?a / ?b ) )"));
+    assert!(rt; reads_back(alloc, "min(?a) < max(?b)", "( MIN ( ?a ) < MAX ( ?b ) )"));
+}
+
+/// A text so many times.
+fn push_times(text: &mut String, piece: &str, times: usize) -> Result<(), Memory> {
+    for _ in 0..times {
+        text.push_str(piece)?;
+    }
+    Ok(())
+}
+
+/// `( ! ( ! .. ?a ) )`, so deep.
+fn nested(alloc: Global, depth: usize) -> Result<String, Memory> {
+    let mut text = String::new(alloc);
+    push_times(&mut text, "( ! ", depth)?;
+    text.push_str("?a")?;
+    push_times(&mut text, " )", depth)?;
+    Ok(text)
+}
+
+/// `( ?a || ?a .. )`, with so many more parts than one.
+fn chained(alloc: Global, more: usize) -> Result<String, Memory> {
+    let mut text = String::from_str(alloc, "( ?a")?;
+    push_times(&mut text, " || ?a", more)?;
+    text.push_str(" )")?;
+    Ok(text)
+}
+
+fn is_read_as_itself(alloc: Global, made: Result<String, Memory>) -> bool {
+    match made {
+        Ok(text) => is_read_as(alloc, text.as_str(), text.as_str()),
+        Err(_) => false,
+    }
+}
+
+/// With the query's own parenthesis 256 are open at one place, which is the limit.
+#[test]
+fn reads_deep_and_long_back(rt: HostRuntime) {
+    let alloc = rt.alloc();
+    assert!(rt; is_read_as_itself(alloc, nested(alloc, 255)));
+    assert!(rt; !is_read_as_itself(alloc, nested(alloc, 256)));
+    assert!(rt; is_read_as_itself(alloc, chained(alloc, 2000)));
 }
