@@ -1,4 +1,4 @@
-use Rattle.std.proofs.Common.{arith, rules}
+use Rattle.std.proofs.Common.{arith, rules, Some, sym, ap, ◌∙◌}
 use Rattle.std.proofs.lemmas.Grind.{common_steps}
 use Rattle.sparql_grammar.specs.ValueReading.{row}
 use Rattle.sparql_grammar.proofs.RowTurns.{row_turn, row_over}
@@ -19,4 +19,4 @@ returns-in_err-found c =
     first_of (search rules, grind (arith, common_steps))
 
 pub returns : goal.returns
-returns c = row_over _ _ _ _ c.loop-name-test.false c.loop-name.invariant
+returns c = row_over _ _ _ _ c.loop-name-test.false c.loop-name.invariant ∙ ap (λ row. Some (row, c.loop-name.cursor)) (sym c.in_ok-build.ensures)
