@@ -2,7 +2,6 @@ pub mod BareShapes
 pub mod BehindTriples
 pub mod Constraints
 pub mod Gives
-pub mod Halves
 pub mod Layers
 pub mod LiteralPieces
 pub mod LocalNames

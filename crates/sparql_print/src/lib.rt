@@ -6,7 +6,6 @@ mod part;
 #[cfg(test)]
 mod part_tests;
 mod printing;
-mod row_values;
 #[cfg(test)]
 mod tests;
 

@@ -11,7 +11,6 @@ ghost use Rattle.sparql_print.specs.PartText as spec;
 ghost use Rattle.sparql_print.specs.PartText.{group_text, part_text};
 
 use crate::printing::print_expr;
-use crate::row_values::value_of;
 use nt_text::write_term;
 use sparql_tree::{Algebra, Expr};
 use std::alloc::Global;
@@ -93,7 +92,7 @@ fn push_variables(out: &mut String, variables: &[Text]) -> Result<(), Memory>
 fn push_value(out: &mut String, alloc: Global, row: &Row, variable: &Text) -> Result<(), Memory>
     ensures { OnOk result (string_bytes out.new ≡ string_bytes out.old ++ spec.value_before row.now variable.now) }
 {
-    match value_of(row, variable.bytes()) {
+    match row.get(variable.bytes()) {
         Some(term) => {
             push_term(out, alloc, term)?;
             push(out, " ")

@@ -7,4 +7,5 @@ pub mod Entries
 pub mod Distinct
 pub mod Permuted
 mod Builders
+mod Halves
 pub mod IdOrder

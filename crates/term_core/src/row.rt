@@ -61,7 +61,7 @@ impl Row {
         Ok(Row { entries })
     }
 
-    /// The term of `name`; None exactly where the name is unbound.
+    /// The term of `name`; None exactly where the name is unbound. The time is logarithmic in the names.
     pub fn get(&self, name: &[u8]) -> Option<&Term>
         ensures { option_copied result ≡ map.get self.now name.now }
     {
@@ -84,7 +84,7 @@ impl Row {
     }
 
     /// Binds `name` to `term`, in place of the term that it had. Where memory is wanting the row stays
-    /// as it was, and name and term are let go.
+    /// as it was, and name and term are let go. The time is linear in the names that stand there.
     pub fn set(&mut self, name: Text, term: Term) -> Result<(), Memory>
         ensures ok { OnOk result (self.new ≡ map.insert self.old name term) }
         ensures err { OnErr result (self.new ≡ self.old) }
@@ -115,16 +115,21 @@ fn at(entries: &[(Text, Term)], k: usize) -> Option<(&Text, &Term)>
     }
 }
 
+// The term of a name among sorted entries, found by halves.
+#[tactic(auto, using(crate::proofs::Halves::halves))]
 fn find<'a>(entries: &'a [(Text, Term)], name: &[u8]) -> Option<&'a Term>
+    requires { AreSorted entries.now }
     ensures { option_copied result ≡ map.find bytes_cmp name.now entries.now }
 {
-    for entry in entries {
-        match name.cmp(entry.0.bytes()) {
-            Ordering::Equal => return Some(&entry.1),
-            _ => {}
-        }
+    let (before, rest) = entries.split_at(entries.len() / 2);
+    match rest.split_first() {
+        None => None,
+        Some((entry, after)) => match name.cmp(entry.0.bytes()) {
+            Ordering::Equal => Some(&entry.1),
+            Ordering::Less => find(before, name),
+            Ordering::Greater => find(after, name),
+        },
     }
-    None
 }
 
 // Where the name stands, or else where it goes.

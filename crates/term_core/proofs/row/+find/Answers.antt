@@ -2,8 +2,8 @@ use Rattle.std.proofs.Common.{◌≡◌, ◌∙◌, ◌++◌, ◌∷◌, [], ap,
 use Rattle.std.specs.FinMap as map
 use Rattle.term_core.specs.Order.{bytes_cmp}
 use Rattle.term_core.specs.Rows.{AreSorted}
-use Rattle.sparql_print.proofs.Halves.{sorted_front, sorted_back, found_front, found_here, found_back}
-use Rattle.sparql_print.proofs.row_values.+find.Goals as goal
+use Rattle.term_core.proofs.Halves.{sorted_front, sorted_back, found_front, found_here, found_back}
+use Rattle.term_core.proofs.row.+find.Goals as goal
 
 pub find-requires : goal.find-requires
 find-requires t c =
