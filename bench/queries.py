@@ -6,7 +6,8 @@ Usage: bench/queries.py PROGRAM [--runs N] [--only WORD]
 PROGRAM is the built program `query_check`. Each query is made by a fixed rule, of as many pieces as fit into 65,536,
 131,072 and 262,144 bytes. The table has the answer, the processor seconds of the best of three runs at each size, the growth from
 size to size (2 where the time is linear), and the peak memory at the last size. A query that is answered otherwise than
-its rule says stops the benchmark. Below the table stand the queries that miss the aim, one second at 262,144 bytes.
+its rule says stops the benchmark. Below the table stand the queries that miss the aim, one second at 262,144 bytes. A second table
+has queries whose trees hold a long text again and again, at smaller sizes: their time goes with what the tree holds.
 Only Python's standard library is used.
 """
 
@@ -17,6 +18,7 @@ import sys
 import tempfile
 
 SIZES = [65_536, 131_072, 262_144]
+SMALLER_SIZES = [16_384, 32_768, 65_536]
 AIM = 1.0
 ACCEPTED = "accepted"
 NO_QUERY = "not a query"
@@ -121,7 +123,24 @@ QUERIES = [
     ("braces that close none", lambda size: "}" * size, NO_QUERY),
     ("the last token is no token", lexical_fault, lambda size: f"lex {size - 1}"),
     ("the last token is wrong", missing_brace, NO_QUERY),
+    ("the last variable is bound before", lambda size: filled(size, "SELECT * {", lambda n: f"BIND(1 AS ?v{n})", "BIND(1 AS ?v0)}"), "scope ?v0"),
+    ("the last label stands in the first pattern", lambda size: filled(size, "SELECT * {", lambda n: f"_:b{n} ?p ?o {{}}", "_:b0 ?p ?o}"), "scope _:b0"),
     ("the last word is not supported", lambda size: filled(size, "SELECT * {", triple, "SERVICE"), "unsupported SERVICE"),
+]
+
+
+def long_prefix(size):
+    return filled(size, f"PREFIX p:<a:{'x' * (size // 2)}> SELECT * {{", lambda n: "p:a p:b p:c .", "}")
+
+
+def long_subject(size):
+    return filled(size, f"SELECT * {{ <a:{'x' * (size // 2)}> ?p ?o", lambda n: ",?o", "}")
+
+
+# queries whose trees hold a long text again and again
+PRODUCTS = [
+    ("one long prefix, used again and again", long_prefix, ACCEPTED),
+    ("one long subject of many objects", long_subject, ACCEPTED),
 ]
 
 
@@ -142,10 +161,10 @@ def told(program, path):
     return line, usage.ru_utime + usage.ru_stime, usage.ru_maxrss * 1024
 
 
-def row(program, path, name, rule, answer, runs):
+def row(program, path, name, rule, answer, sizes, runs):
     """Prints the row of a query, and gives its seconds at the last size."""
     seconds = []
-    for size in SIZES:
+    for size in sizes:
         text = rule(size).encode()
         assert len(text) == size, f"{name}: {len(text)} bytes"
         with open(path, "wb") as file:
@@ -162,6 +181,14 @@ def row(program, path, name, rule, answer, runs):
     return seconds[-1]
 
 
+def table(program, path, queries, sizes, given):
+    """Prints the rows of queries, and gives the names of those that miss the aim at the last size."""
+    print(f"| Query | Answer | {sizes[0]:,} | {sizes[1]:,} | Growth | {sizes[2]:,} | Growth | Memory in MB |")
+    print("|---|---|---:|---:|---:|---:|---:|---:|")
+    chosen = [query for query in queries if given.only in query[0]]
+    return [name for name, rule, answer in chosen if row(program, path, name, rule, answer, sizes, given.runs) >= AIM]
+
+
 def main():
     parser = argparse.ArgumentParser(description=__doc__.split("\n")[0])
     parser.add_argument("program")
@@ -169,17 +196,13 @@ def main():
     parser.add_argument("--only", default="", help="the queries with this in their name")
     given = parser.parse_args()
     program = os.path.abspath(given.program)
-    print("| Query | Answer | 65,536 | 131,072 | Growth | 262,144 | Growth | Memory in MB |")
-    print("|---|---|---:|---:|---:|---:|---:|---:|")
-    slow = []
     with tempfile.TemporaryDirectory() as scratch:
         path = os.path.join(scratch, "query.rq")
-        for name, rule, answer in [query for query in QUERIES if given.only in query[0]]:
-            seconds = row(program, path, name, rule, answer, given.runs)
-            if seconds >= AIM:
-                slow.append(name)
-    for name in slow:
-        print(f"misses the aim of {AIM:.0f} s: {name}")
+        slow = table(program, path, QUERIES, SIZES, given)
+        for name in slow:
+            print(f"misses the aim of {AIM:.0f} s: {name}")
+        print()
+        table(program, path, PRODUCTS, SMALLER_SIZES, given)
 
 
 if __name__ == "__main__":

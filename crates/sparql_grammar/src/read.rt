@@ -78,7 +78,8 @@ fn kept_query(alloc: Global, written: Written) -> Result<Query, Memory>
 /// The query that the symbols spell, all of them (SPARQL 1.1, section 19.8, SelectQuery).
 ///
 /// `NotAQuery` comes exactly where they spell none. No other fault but `Memory` comes from here. The
-/// time is linear in the symbols, but for the look-up of selected variables in a tree.
+/// time is linear in the symbols and in the texts that the tree holds, each triple its own subject, but
+/// for the look-up of selected variables in a tree.
 pub fn read_symbols(alloc: Global, symbols: &[Symbol]) -> Result<Query, QueryFault>
     ensures found { IfOk result (λ query. IsQuery symbols.now (query_of query)) }
     ensures why { IfErr result (WhyNone symbols.now) }

@@ -15,8 +15,8 @@ use std::alloc::Global;
 /// are `TooLarge(Size::Text)`, `Lex`, `Unsupported` and `TooLarge(Size::Nesting)`; then `NotAQuery`, where
 /// the text's symbols spell no query. `Scope` does not come from here.
 ///
-/// The time is linear in the symbols and their values, but for look-ups of prefixes and of selected
-/// variables in a tree.
+/// The time is linear in the text and in the texts that the tree holds, each name its whole IRI and each
+/// triple its own subject, but for look-ups of prefixes and of selected variables in a tree.
 pub fn read_tree(alloc: Global, text: &[u8]) -> Result<Query, QueryFault>
     ensures found { IfOk result (λ query. IsTree text.now (query_of query)) }
     ensures why { IfErr result (WhyNoTree text.now) }

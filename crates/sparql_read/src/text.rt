@@ -16,8 +16,8 @@ use std::alloc::Global;
 /// which are `TooLarge(Size::Text)`, `Lex`, `Unsupported`, `TooLarge(Size::Nesting)` and `NotAQuery`;
 /// then `Scope`, where a rule is broken, with the name at the first place in the text that breaks one.
 ///
-/// The time is linear in the symbols and their values, but for look-ups of prefixes, variables and
-/// labels in a tree.
+/// The time is linear in the text and in the texts that the tree holds, each name its whole IRI and each
+/// triple its own subject, but for look-ups of prefixes, variables and labels in a tree.
 pub fn read_query(alloc: Global, text: &[u8]) -> Result<Query, QueryFault>
     ensures found { IfOk result (λ query. IsAccepted text.now (query_of query)) }
     ensures why { IfErr result (WhyRefused text.now) }
