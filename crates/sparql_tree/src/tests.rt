@@ -100,16 +100,22 @@ fn empty(alloc: Global) -> Algebra {
     Algebra::Bgp(Items::new(alloc))
 }
 
-fn every_operator(alloc: Global) -> Result<Algebra, Memory> {
+fn joined(alloc: Global) -> Result<Algebra, Memory> {
     let table = Algebra::Table {
         variables: Items::new(alloc),
         rows: Items::new(alloc),
     };
-    let joined = Algebra::join(alloc, empty(alloc), table)?;
-    let filtered = Algebra::filter(alloc, variable(alloc)?, joined)?;
+    Algebra::join(alloc, empty(alloc), table)
+}
+
+fn extended(alloc: Global) -> Result<Algebra, Memory> {
+    let filtered = Algebra::filter(alloc, variable(alloc)?, joined(alloc)?)?;
     let name = Text::from_str(alloc, "b")?;
-    let extended = Algebra::extend(alloc, filtered, name, variable(alloc)?)?;
-    let either = Algebra::union(alloc, extended, empty(alloc))?;
+    Algebra::extend(alloc, filtered, name, variable(alloc)?)
+}
+
+fn every_operator(alloc: Global) -> Result<Algebra, Memory> {
+    let either = Algebra::union(alloc, extended(alloc)?, empty(alloc))?;
     let without = Algebra::minus(alloc, either, empty(alloc))?;
     Algebra::left_join(alloc, without, empty(alloc), Some(variable(alloc)?))
 }
