@@ -149,7 +149,7 @@ fn cuts_strings(rt: HostRuntime) -> Result<(), AllocError> {
 #[test]
 fn cuts_names(rt: HostRuntime) -> Result<(), AllocError> {
     let alloc = rt.alloc();
-    let table: [(&[u8], &str); 66] = [
+    let table: [(&[u8], &str); 38] = [
         (b"a", "W0-1"),
         (b"a1_", "W0-3"),
         (b"a.b", "W0-1 +1-2 W2-3"),
@@ -188,6 +188,17 @@ fn cuts_names(rt: HostRuntime) -> Result<(), AllocError> {
         (b"a.a.a.a ?b", "W0-1 +1-2 W2-3 +3-4 W4-5 +5-6 W6-7 V8-10"),
         (b"a.b.c:d a.b", "P0-7 W8-9 +9-10 W10-11"),
         (b"a\xc2\xb7b:c", "P0-6"),
+    ];
+    for (text, expected) in table {
+        assert_eq!(rt; shown(alloc, text)?.as_str(), expected, "{text:?}");
+    }
+    Ok(())
+}
+
+#[test]
+fn cuts_labels_variables_and_tags(rt: HostRuntime) -> Result<(), AllocError> {
+    let alloc = rt.alloc();
+    let table: [(&[u8], &str); 28] = [
         (b"_:a", "B0-3"),
         (b"_:1", "B0-3"),
         (b"_:a.b", "B0-5"),
