@@ -6,8 +6,7 @@ Usage: bench/queries.py PROGRAM [--runs N] [--only WORD]
 PROGRAM is the built program `query_check`. Each query is made by a fixed rule, of as many pieces as fit into 65,536,
 131,072 and 262,144 bytes. The table has the answer, the processor seconds of the best of three runs at each size, the growth from
 size to size (2 where the time is linear), and the peak memory at the last size. A query that is answered otherwise than
-its rule says stops the benchmark. Below the table stand the queries that miss the aim, one second at 262,144 bytes. A second table
-has queries whose trees hold a long text again and again, at smaller sizes: their time goes with what the tree holds.
+its rule says stops the benchmark. Below the table stand the queries that miss the aim, one second at 262,144 bytes.
 Only Python's standard library is used.
 """
 
@@ -18,10 +17,10 @@ import sys
 import tempfile
 
 SIZES = [65_536, 131_072, 262_144]
-SMALLER_SIZES = [16_384, 32_768, 65_536]
 AIM = 1.0
 ACCEPTED = "accepted"
 NO_QUERY = "not a query"
+TOO_MUCH = "too large written"
 
 
 def filled(size, head, piece, tail):
@@ -75,6 +74,35 @@ def triple(n):
     return f"?s{n} <a:p> ?o{n} . "
 
 
+def names(bytes_of):
+    """A rule: one prefix, whose IRI has so many bytes in a text of this size, and its name again and again."""
+    return lambda size: filled(size, f"PREFIX p:<a:{'x' * bytes_of(size)}> SELECT * {{", lambda n: "p: p: p: .", "}")
+
+
+def objects(bytes_of):
+    """A rule: one subject, and objects behind commas."""
+    return lambda size: filled(size, f"SELECT * {{ <a:{'x' * bytes_of(size)}> ?p ?o", lambda n: ",?o", "}")
+
+
+def objects_of_verb(bytes_of):
+    """A rule: one verb, and objects behind commas."""
+    return lambda size: filled(size, f"SELECT * {{ ?s <a:{'x' * bytes_of(size)}> ?o", lambda n: ",?o", "}")
+
+
+def verbs(bytes_of):
+    """A rule: one subject, and verbs behind semicolons."""
+    return lambda size: filled(size, f"SELECT * {{ <a:{'x' * bytes_of(size)}> ?p ?o", lambda n: ";?p ?o", "}")
+
+
+def cells(bytes_of):
+    """A rule: one variable, and its values in a table."""
+    return lambda size: filled(size, f"SELECT * {{ VALUES ?{'x' * bytes_of(size)} {{", lambda n: "1 ", "} }")
+
+
+def half(size):
+    return size // 2
+
+
 PARENTHESES = "FILTER(" + "(" * 254 + "?a" + ")" * 255 + " "
 GROUPS = "{" * 255 + "}" * 255
 
@@ -121,26 +149,21 @@ QUERIES = [
     ("only blanks", lambda size: " " * size, NO_QUERY),
     ("only open braces, 256", lambda size: filled(size, "SELECT *" + "{" * 256, triple, ""), NO_QUERY),
     ("braces that close none", lambda size: "}" * size, NO_QUERY),
+    ("names that write out nearly the most", names(lambda size: 208), ACCEPTED),
+    ("objects that write out nearly the most", objects(lambda size: 185), ACCEPTED),
+    ("objects of a verb that write out nearly the most", objects_of_verb(lambda size: 185), ACCEPTED),
+    ("verbs that write out nearly the most", verbs(lambda size: 370), ACCEPTED),
+    ("cells that write out nearly the most", cells(lambda size: 125), ACCEPTED),
+    ("names that write out more, half of the text each", names(half), TOO_MUCH),
+    ("objects that write out more", objects(half), TOO_MUCH),
+    ("objects of a verb that write out more", objects_of_verb(half), TOO_MUCH),
+    ("verbs that write out more", verbs(half), TOO_MUCH),
+    ("cells that write out more", cells(half), TOO_MUCH),
     ("the last token is no token", lexical_fault, lambda size: f"lex {size - 1}"),
     ("the last token is wrong", missing_brace, NO_QUERY),
     ("the last variable is bound before", lambda size: filled(size, "SELECT * {", lambda n: f"BIND(1 AS ?v{n})", "BIND(1 AS ?v0)}"), "scope ?v0"),
     ("the last label stands in the first pattern", lambda size: filled(size, "SELECT * {", lambda n: f"_:b{n} ?p ?o {{}}", "_:b0 ?p ?o}"), "scope _:b0"),
     ("the last word is not supported", lambda size: filled(size, "SELECT * {", triple, "SERVICE"), "unsupported SERVICE"),
-]
-
-
-def long_prefix(size):
-    return filled(size, f"PREFIX p:<a:{'x' * (size // 2)}> SELECT * {{", lambda n: "p:a p:b p:c .", "}")
-
-
-def long_subject(size):
-    return filled(size, f"SELECT * {{ <a:{'x' * (size // 2)}> ?p ?o", lambda n: ",?o", "}")
-
-
-# queries whose trees hold a long text again and again
-PRODUCTS = [
-    ("one long prefix, used again and again", long_prefix, ACCEPTED),
-    ("one long subject of many objects", long_subject, ACCEPTED),
 ]
 
 
@@ -161,10 +184,10 @@ def told(program, path):
     return line, usage.ru_utime + usage.ru_stime, usage.ru_maxrss * 1024
 
 
-def row(program, path, name, rule, answer, sizes, runs):
+def row(program, path, name, rule, answer, runs):
     """Prints the row of a query, and gives its seconds at the last size."""
     seconds = []
-    for size in sizes:
+    for size in SIZES:
         text = rule(size).encode()
         assert len(text) == size, f"{name}: {len(text)} bytes"
         with open(path, "wb") as file:
@@ -181,12 +204,12 @@ def row(program, path, name, rule, answer, sizes, runs):
     return seconds[-1]
 
 
-def table(program, path, queries, sizes, given):
+def table(program, path, given):
     """Prints the rows of queries, and gives the names of those that miss the aim at the last size."""
-    print(f"| Query | Answer | {sizes[0]:,} | {sizes[1]:,} | Growth | {sizes[2]:,} | Growth | Memory in MB |")
+    print(f"| Query | Answer | {SIZES[0]:,} | {SIZES[1]:,} | Growth | {SIZES[2]:,} | Growth | Memory in MB |")
     print("|---|---|---:|---:|---:|---:|---:|---:|")
-    chosen = [query for query in queries if given.only in query[0]]
-    return [name for name, rule, answer in chosen if row(program, path, name, rule, answer, sizes, given.runs) >= AIM]
+    chosen = [query for query in QUERIES if given.only in query[0]]
+    return [name for name, rule, answer in chosen if row(program, path, name, rule, answer, given.runs) >= AIM]
 
 
 def main():
@@ -198,11 +221,8 @@ def main():
     program = os.path.abspath(given.program)
     with tempfile.TemporaryDirectory() as scratch:
         path = os.path.join(scratch, "query.rq")
-        slow = table(program, path, QUERIES, SIZES, given)
-        for name in slow:
+        for name in table(program, path, given):
             print(f"misses the aim of {AIM:.0f} s: {name}")
-        print()
-        table(program, path, PRODUCTS, SMALLER_SIZES, given)
 
 
 if __name__ == "__main__":

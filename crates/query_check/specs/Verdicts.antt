@@ -12,6 +12,7 @@ use Rattle.sparql_read.specs.Accepted as read
 abbrev pub size_text : Size → List ℕ
 size_text sizes.Text = codes "text"
 size_text sizes.Nesting = codes "nesting"
+size_text sizes.Written = codes "written"
 size_text sizes.Depth = codes "depth"
 size_text sizes.Weight = codes "weight"
 size_text sizes.Part = codes "part"

@@ -68,6 +68,53 @@ fn limits_are_told(rt: HostRuntime) {
     refuses(&rt, alloc, &long, "too large text\n");
 }
 
+/// A text of a piece again and again, with others before and behind.
+fn repeated(alloc: Global, front: &str, count: usize, piece: &str, back: &str) -> Option<String> {
+    let mut text = String::new(alloc);
+    text.push_str(front).ok()?;
+    for _ in 0..count {
+        text.push_str(piece).ok()?;
+    }
+    text.push_str(back).ok()?;
+    Some(text)
+}
+
+/// A query of a long name that is written out so often: with a prefix, as a subject, as a verb, or as the
+/// variable of a table.
+fn long_names(alloc: Global, bytes: usize, times: usize) -> Option<[String; 4]> {
+    let name = repeated(alloc, "a:", bytes - 2, "x", "")?;
+    let prefix = format!(in alloc; "PREFIX p: <{name}> SELECT * {{ ?s ?p ?o FILTER(?o IN (1").ok()?;
+    let subject = format!(in alloc; "SELECT * {{ <{name}> ?p ?o ").ok()?;
+    let verb = format!(in alloc; "SELECT * {{ ?s <{name}> 1 ").ok()?;
+    let variable = repeated(alloc, "", bytes, "x", "")?;
+    let table = format!(in alloc; "SELECT * {{ VALUES ?{variable} {{ ").ok()?;
+    Some([
+        repeated(alloc, &prefix, times, ", p:", ")) }")?,
+        repeated(alloc, &subject, times, "; ?p 1", "}")?,
+        repeated(alloc, &verb, times, ", 1", "}")?,
+        repeated(alloc, &table, times, "1 ", "} }")?,
+    ])
+}
+
+#[test]
+fn long_names_are_written_out(rt: HostRuntime) {
+    let alloc = rt.alloc();
+    match (
+        long_names(alloc, 30_000, 550),
+        long_names(alloc, 30_000, 560),
+    ) {
+        (Some(fits), Some(longer)) => {
+            for text in &fits {
+                assert!(rt; is_told(alloc, text.as_bytes(), true, "accepted\n"));
+            }
+            for text in &longer {
+                refuses(&rt, alloc, text.as_bytes(), "too large written\n");
+            }
+        }
+        _ => assert!(rt; false),
+    }
+}
+
 /// Whether so much of a text is read.
 fn is_read(alloc: Global, text: &[u8], count: usize) -> bool {
     let mut reader = text;

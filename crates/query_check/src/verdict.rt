@@ -22,6 +22,7 @@ fn size_text(size: Size) -> &'static str
     match size {
         Size::Text => "text",
         Size::Nesting => "nesting",
+        Size::Written => "written",
         Size::Depth => "depth",
         Size::Weight => "weight",
         Size::Part => "part",
@@ -53,7 +54,7 @@ fn fault_line(alloc: Global, fault: &QueryFault) -> Result<String, Memory>
 }
 
 /// What is told of a text: `accepted`, or the first cause of its refusal, in the words of `QueryFault`:
-/// `too large text` and `too large nesting`, `lex PLACE` with a place in bytes counted from 0, `unsupported
+/// `too large text`, `too large nesting` and `too large written`, `lex PLACE` with a place in bytes counted from 0, `unsupported
 /// WORD`, `not a query`, `scope NAME`, `memory`.
 pub fn judge(alloc: Global, text: &[u8]) -> Result<Verdict, Memory>
     ensures { IfOk result (λ verdict. spec.IsTold text.now verdict.accepted (string_bytes verdict.line)) }

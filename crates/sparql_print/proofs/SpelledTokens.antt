@@ -146,6 +146,7 @@ over-iris prefixes [] i h = i
 over-iris prefixes (d ∷ ds) i h = over-iris (with_declaration prefixes d) ds (with-iris prefixes d i h.0) h.1
 
 pub text-spelled : (text : List ℕ) (ss : List Symbol) → AreSymbols text ss → AreSpelledSymbols ss
-text-spelled text ss h =
+text-spelled text ss answer =
+    let h = answer.spelled in
     let all : AreLexemes h.ls = subst AreLexemes (sym h.tokens.spelled) (text-lexemes text h.tokens.ts h.tokens.tokens) in
     symbols-spelled (prefixes_of h.declarations) h.rest ss (over-iris no_prefixes h.declarations (λ prefix. tt) (declarations-spelled h.prologue all)) (rest-lexemes h.prologue all) h.are_symbols

@@ -12,10 +12,11 @@ use Rattle.sparql_symbol.specs.declared.symbol.Symbol.{Symbol}
 use Rattle.sparql_symbol.specs.Symbols.{Lexeme, lexemes}
 use Rattle.sparql_symbol.specs.Prologue.{prefixes_of}
 use Rattle.sparql_symbol.specs.Reading.{read_symbols, read_prologue}
-use Rattle.sparql_symbol.specs.Refusals.{AreTokensOf, AreSymbols, IsRefused}
+use Rattle.sparql_symbol.specs.Refusals.{AreTokensOf, Spells, AreSymbols, IsRefused}
 use Rattle.sparql_symbol.specs.Unsupported.{first_unsupported, deepest}
+use Rattle.sparql_symbol.specs.Written.{written}
 use Rattle.sparql_symbol.proofs.Declarations.{prologue-is}
-use Rattle.sparql_symbol.proofs.Judged.{text-lexemes, tokens-of, rest-lexemes, symbols-are}
+use Rattle.sparql_symbol.proofs.Judged.{text-lexemes, tokens-of, rest-lexemes, symbols-spelled}
 use Rattle.sparql_symbol.proofs.Readings.{readings-of}
 use Rattle.sparql_symbol.proofs.Standing.{AreLexemes}
 
@@ -30,15 +31,18 @@ all-lexemes text ls h = subst AreLexemes (sym h.spelled) (text-lexemes text h.ts
 abbrev read : List Lexeme → List Symbol
 read ls = read_symbols (prefixes_of (read_prologue ls).0) (read_prologue ls).1
 
-are-read : (text : List ℕ) (ss : List Symbol) → (h : AreSymbols text ss) → ss ≡ read h.ls
+are-read : (text : List ℕ) (ss : List Symbol) → (h : Spells text ss) → ss ≡ read h.ls
 are-read text ss h =
     let all = all-lexemes text h.ls h.tokens in
     let r = prologue-is all h.prologue in
     readings-of (prefixes_of h.declarations) h.rest ss (rest-lexemes h.prologue all) h.are_symbols
     ∙ (ap (λ ds. read_symbols (prefixes_of ds) h.rest) (sym r.declarations) ∙ ap (read_symbols (prefixes_of (read_prologue h.ls).0)) (sym r.left))
 
+one-spelled : (text : List ℕ) (a b : List Symbol) → Spells text a → Spells text b → a ≡ b
+one-spelled text a b h k = are-read text a h ∙ (ap read (one-list text h.ls k.ls h.tokens k.tokens) ∙ sym (are-read text b k))
+
 pub one-symbols : (text : List ℕ) (a b : List Symbol) → AreSymbols text a → AreSymbols text b → a ≡ b
-one-symbols text a b h k = are-read text a h ∙ (ap read (one-list text h.ls k.ls h.tokens k.tokens) ∙ sym (are-read text b k))
+one-symbols text a b h k = one-spelled text a b h.spelled k.spelled
 
 -- ---- refusals
 
@@ -52,18 +56,25 @@ abbrev what_is : List ℕ → Option (List ℕ)
 what_is what = Some what
 
 -- the cause that a text has in each case
-abbrev deep-fault : Bool → Option QueryFault
-deep-fault true = Some (faults.TooLarge sizes.Nesting)
-deep-fault false = None
+abbrev written-fault : Bool → Option QueryFault
+written-fault true = Some (faults.TooLarge sizes.Written)
+written-fault false = None
 
-abbrev cut-fault : Option (List ℕ) → ℕ → Option QueryFault
-cut-fault (Some what) n = Some (faults.Unsupported what)
-cut-fault None n = deep-fault (nat_lt 256 n)
+abbrev deep-fault : Bool → ℕ → Option QueryFault
+deep-fault true bytes = Some (faults.TooLarge sizes.Nesting)
+deep-fault false bytes = written-fault (nat_lt 16777216 bytes)
+
+abbrev cut-fault : Option (List ℕ) → ℕ → ℕ → Option QueryFault
+cut-fault (Some what) n bytes = Some (faults.Unsupported what)
+cut-fault None n bytes = deep-fault (nat_lt 256 n) bytes
+
+abbrev fault-in : List Lexeme → Option QueryFault
+fault-in ls = cut-fault (first_unsupported ls) (deepest ls) (written (read ls))
 
 abbrev fault-of : (text : List ℕ) → Case text → Option QueryFault
 fault-of text (long h) = Some (faults.TooLarge sizes.Text)
 fault-of text (stuck at h k) = Some (faults.Lex at)
-fault-of text (cut ls h) = cut-fault (first_unsupported ls) (deepest ls)
+fault-of text (cut ls h) = fault-in ls
 
 case-of : (text : List ℕ) → Case text
 case-of text = elim (cases_lt 262144 (length text)) [
@@ -84,11 +95,25 @@ too-deep n h = grind (arith, nat_tests)
 not-deep : (n : ℕ) → n ≤ 256 → nat_lt 256 n ≡ false
 not-deep n h = grind (arith, nat_tests)
 
+too-much : (n : ℕ) → 16777216 < n → nat_lt 16777216 n ≡ true
+too-much n h = grind (arith, nat_tests)
+
+not-much : (n : ℕ) → n ≤ 16777216 → nat_lt 16777216 n ≡ false
+not-much n h = grind (arith, nat_tests)
+
 -- the tokens of two cases
-cut-same : (text : List ℕ) (c : Case text) (ls : List Lexeme) → AreTokensOf text ls → fault-of text c ≡ cut-fault (first_unsupported ls) (deepest ls)
+cut-same : (text : List ℕ) (c : Case text) (ls : List Lexeme) → AreTokensOf text ls → fault-of text c ≡ fault-in ls
 cut-same text (long h) ls k = absurd (omega (arith, h, k.small))
 cut-same text (stuck at h f) ls k = absurd (not-both text k.ts at k.tokens f)
-cut-same text (cut ms h) ls k = ap (λ all. cut-fault (first_unsupported all) (deepest all)) (one-list text ms ls h k)
+cut-same text (cut ms h) ls k = ap fault-in (one-list text ms ls h k)
+
+-- where the tokens have symbols, what they write decides
+spelled-same : (text : List ℕ) (c : Case text) (ss : List Symbol) → Spells text ss → fault-of text c ≡ written-fault (nat_lt 16777216 (written ss))
+spelled-same text c ss h =
+    cut-same text c h.ls h.tokens
+    ∙ (ap (λ o. cut-fault o (deepest h.ls) (written (read h.ls))) h.answered
+    ∙ (ap (λ t. deep-fault t (written (read h.ls))) (not-deep (deepest h.ls) h.shallow)
+    ∙ ap (λ all. written-fault (nat_lt 16777216 (written all))) (sym (are-read text ss h))))
 
 -- a refusal is that of the case
 refusal-is : (text : List ℕ) (c : Case text) (fault : QueryFault) → IsRefused text fault → fault-of text c ≡ Some fault
@@ -99,7 +124,10 @@ refusal-is text c (faults.TooLarge sizes.Text) h = long-is c
     long-is (stuck at k f) = absurd (omega (arith, h, k))
     long-is (cut ls k) = absurd (omega (arith, h, k.small))
 refusal-is text c (faults.TooLarge sizes.Nesting) h =
-    cut-same text c h.ls h.tokens ∙ (ap (λ o. cut-fault o (deepest h.ls)) h.answered ∙ ap deep-fault (too-deep (deepest h.ls) h.deep))
+    cut-same text c h.ls h.tokens
+    ∙ (ap (λ o. cut-fault o (deepest h.ls) (written (read h.ls))) h.answered ∙ ap (λ t. deep-fault t (written (read h.ls))) (too-deep (deepest h.ls) h.deep))
+refusal-is text c (faults.TooLarge sizes.Written) h =
+    spelled-same text c h.symbols h.spelled ∙ ap written-fault (too-much (written h.symbols) h.much)
 refusal-is text c (faults.TooLarge _) h = absurd h
 refusal-is text c (faults.Lex at) h = stuck-is c
   where
@@ -107,7 +135,7 @@ refusal-is text c (faults.Lex at) h = stuck-is c
     stuck-is (long k) = absurd (omega (arith, h.0, k))
     stuck-is (stuck b k f) = ap (λ n. Some (faults.Lex n)) (one-fault text b at f h.1)
     stuck-is (cut ls k) = absurd (not-both text k.ts at k.tokens h.1)
-refusal-is text c (faults.Unsupported what) h = cut-same text c h.ls h.tokens ∙ ap (λ o. cut-fault o (deepest h.ls)) h.first
+refusal-is text c (faults.Unsupported what) h = cut-same text c h.ls h.tokens ∙ ap (λ o. cut-fault o (deepest h.ls) (written (read h.ls))) h.first
 refusal-is text c faults.NotAQuery h = absurd h
 refusal-is text c (faults.Scope variable) h = absurd h
 refusal-is text c faults.Memory h = absurd h
@@ -118,8 +146,7 @@ one-refusal text a b h k =
 
 -- symbols are those of a text that has no refusal
 no-fault : (text : List ℕ) (ss : List Symbol) (c : Case text) → AreSymbols text ss → fault-of text c ≡ None
-no-fault text ss c h =
-    cut-same text c h.ls h.tokens ∙ (ap (λ o. cut-fault o (deepest h.ls)) h.answered ∙ ap deep-fault (not-deep (deepest h.ls) h.shallow))
+no-fault text ss c h = spelled-same text c ss h.spelled ∙ ap written-fault (not-much (written ss) h.fits)
 
 pub not-both-answers : (text : List ℕ) (ss : List Symbol) (fault : QueryFault) → AreSymbols text ss → IsRefused text fault → ⊥
 not-both-answers text ss fault h k =
@@ -132,10 +159,16 @@ Answer text = ((ss : List Symbol) × AreSymbols text ss) ⊎ ((fault : QueryFaul
 pub some-answer : (text : List ℕ) → Answer text
 some-answer text = by_case (case-of text)
   where
+    by_size : (ss : List Symbol) → Spells text ss → (t : Bool) → nat_lt 16777216 (written ss) ≡ t → Answer text
+    by_size ss h true e = inr (faults.TooLarge sizes.Written, record { symbols = ss; spelled = h; much = grind (arith, nat_tests) })
+    by_size ss h false e = inl (ss, record { spelled = h; fits = grind (arith, nat_tests) })
+
     by_depth : (ls : List Lexeme) → (h : AreTokensOf text ls) → first_unsupported ls ≡ None → (t : Bool) → nat_lt 256 (deepest ls) ≡ t → Answer text
     by_depth ls h answered true deep = inr (faults.TooLarge sizes.Nesting, record { ls = ls; tokens = h; answered = answered; deep = grind (arith, nat_tests) })
     by_depth ls h answered false deep =
-        inl (read (lexemes text h.ts), symbols-are text h.ts (read (lexemes text h.ts)) h.small h.tokens (ap first_unsupported (sym h.spelled) ∙ answered) (ap (λ all. nat_lt 256 (deepest all)) (sym h.spelled) ∙ deep) refl)
+        by_size (read (lexemes text h.ts))
+        (symbols-spelled text h.ts (read (lexemes text h.ts)) h.small h.tokens (ap first_unsupported (sym h.spelled) ∙ answered) (ap (λ all. nat_lt 256 (deepest all)) (sym h.spelled) ∙ deep) refl)
+        (nat_lt 16777216 (written (read (lexemes text h.ts)))) refl
 
     by_first : (ls : List Lexeme) → AreTokensOf text ls → (o : Option (List ℕ)) → first_unsupported ls ≡ o → Answer text
     by_first ls h (Some what) e = inr (faults.Unsupported what, record { ls = ls; tokens = h; first = e })

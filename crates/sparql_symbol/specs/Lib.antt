@@ -1,6 +1,7 @@
 pub mod Words
 pub mod Undoing
 pub mod Symbols
+pub mod Written
 pub mod Prologue
 pub mod Unsupported
 pub mod Refusals

@@ -9,6 +9,7 @@ use Rattle.sparql_symbol.specs.declared.symbol.Symbol.{Symbol}
 use Rattle.sparql_symbol.specs.Symbols.{Lexeme, lexemes, AreSymbolsOf}
 use Rattle.sparql_symbol.specs.Prologue.{Declaration, IsPrologue, prefixes_of}
 use Rattle.sparql_symbol.specs.Unsupported.{first_unsupported, deepest}
+use Rattle.sparql_symbol.specs.Written.{written}
 
 -- a text of at most 262,144 bytes with these tokens
 pub record AreTokensOf (text : List ℕ) (ls : List Lexeme) : Type 0 where
@@ -30,12 +31,31 @@ pub record IsTooDeep (text : List ℕ) : Type 0 where
   pub answered : first_unsupported ls ≡ None
   pub deep : 256 < deepest ls
 
--- the first cause of a refusal: the text's size, a place where no token begins, a token that is not answered, the nesting
+-- all tokens are answered and not nested too deep, and these are their symbols behind the prologue
+pub record Spells (text : List ℕ) (symbols : List Symbol) : Type 0 where
+  pub ls : List Lexeme
+  pub tokens : AreTokensOf text ls
+  pub answered : first_unsupported ls ≡ None
+  pub shallow : deepest ls ≤ 256
+  pub declarations : List Declaration
+  pub rest : List Lexeme
+  pub prologue : IsPrologue ls declarations rest
+  pub are_symbols : AreSymbolsOf (prefixes_of declarations) rest symbols
+
+-- the text has symbols, and they write out more than 16,777,216 bytes
+pub record WritesTooMuch (text : List ℕ) : Type 0 where
+  pub symbols : List Symbol
+  pub spelled : Spells text symbols
+  pub much : 16777216 < written symbols
+
+-- the first cause of a refusal: the text's size, a place where no token begins, a token that is not answered, the nesting, what
+-- is written out
 abbrev pub IsRefused : List ℕ → QueryFault → Type 0
 IsRefused text (faults.TooLarge sizes.Text) = 262144 < length text
 IsRefused text (faults.Lex at) = (length text ≤ 262144) × FaultAt text at
 IsRefused text (faults.Unsupported what) = IsUnsupported text what
 IsRefused text (faults.TooLarge sizes.Nesting) = IsTooDeep text
+IsRefused text (faults.TooLarge sizes.Written) = WritesTooMuch text
 IsRefused text _ = ⊥
 
 -- why there are no symbols: want of memory, or a refusal
@@ -45,11 +65,5 @@ WhyNone text fault = IsRefused text fault
 
 -- a text that is not refused, and the symbols of its tokens behind the prologue
 pub record AreSymbols (text : List ℕ) (symbols : List Symbol) : Type 0 where
-  pub ls : List Lexeme
-  pub tokens : AreTokensOf text ls
-  pub answered : first_unsupported ls ≡ None
-  pub shallow : deepest ls ≤ 256
-  pub declarations : List Declaration
-  pub rest : List Lexeme
-  pub prologue : IsPrologue ls declarations rest
-  pub are_symbols : AreSymbolsOf (prefixes_of declarations) rest symbols
+  pub spelled : Spells text symbols
+  pub fits : written symbols ≤ 16777216

@@ -13,6 +13,7 @@ mod tests;
 mod undoing;
 mod unsupported;
 mod words;
+mod written;
 
 pub use query_symbols::symbols;
 pub use symbol::{Shape, Symbol};

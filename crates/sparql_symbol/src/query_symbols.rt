@@ -4,9 +4,10 @@ ghost use Rattle.std.specs.Prelude.{◌≡◌, ◌≤◌, All, IfOk, IfErr, leng
 ghost use Rattle.term_core.specs.Tokens.{Tokens};
 ghost use Rattle.sparql_symbol.specs.Names.{iri_of};
 ghost use Rattle.sparql_symbol.specs.Reading as spec;
-ghost use Rattle.sparql_symbol.specs.Reading.{Stands};
+ghost use Rattle.sparql_symbol.specs.Reading.{Stands, AreRead, WhyUnread, WhyUnreadOf};
 ghost use Rattle.sparql_symbol.specs.Refusals.{AreSymbols, WhyNone};
 ghost use Rattle.sparql_symbol.specs.Symbols.{lexemes};
+ghost use Rattle.sparql_symbol.specs.Written.{written};
 
 use crate::Symbol;
 use crate::parts::spelling;
@@ -14,36 +15,46 @@ use crate::prefixes::Prefixes;
 use crate::prologue::read_prologue;
 use crate::reading::read_symbol;
 use crate::unsupported::{first_unsupported, is_too_deep};
+use crate::written::{spend, whole_room};
 use sparql_lex::{LexFault, tokens};
 use sparql_tree::{QueryFault, Size};
 use std::alloc::Global;
-use term_core::{Items, Memory, Text, Token};
+use term_core::{Items, Text, Token};
 
 /// The most bytes that a query's text may have.
 const TEXT_LIMIT: usize = 262_144;
 
-/// The symbols of all tokens, where the prefixes stand for these IRIs.
+/// The symbols of all tokens, where the prefixes stand for these IRIs, if they do not write out too much.
 fn read_symbols(
     alloc: Global,
     text: &str,
     tokens: &[Token],
     prefixes: &Prefixes<'_>,
-) -> Result<Items<Symbol>, Memory>
+) -> Result<Items<Symbol>, QueryFault>
     requires { All (Stands text.now) tokens.now }
-    ensures { IfOk result (λ symbols. symbols ≡ spec.read_symbols (iri_of prefixes.now) (lexemes text.now tokens.now)) }
+    ensures found { IfOk result (λ symbols. symbols ≡ spec.read_symbols (iri_of prefixes.now) (lexemes text.now tokens.now)) }
+    ensures fits { IfOk result (λ symbols. written symbols ≤ 16777216) }
+    ensures why { IfErr result (WhyUnread (spec.read_symbols (iri_of prefixes.now) (lexemes text.now tokens.now))) }
 {
     let mut symbols = Items::new(alloc);
+    let mut room = whole_room();
     for token in tokens {
-        let written = spelling(text, *token);
-        symbols.push(read_symbol(alloc, prefixes, token.kind, written)?)?;
+        let symbol = read_symbol(alloc, prefixes, token.kind, spelling(text, *token))?;
+        room = match spend(room, &symbol) {
+            Some(room) => room,
+            None => return Err(QueryFault::TooLarge(Size::Written)),
+        };
+        symbols.push(symbol)?;
     }
     Ok(symbols)
 }
 
-/// The symbols behind the prologue.
-fn behind_prologue(alloc: Global, text: &str, tokens: &[Token]) -> Result<Items<Symbol>, Memory>
+/// The symbols behind the prologue, if they do not write out too much.
+fn behind_prologue(alloc: Global, text: &str, tokens: &[Token]) -> Result<Items<Symbol>, QueryFault>
     requires { All (Stands text.now) tokens.now }
-    ensures { IfOk result (spec.AreRead (lexemes text.now tokens.now)) }
+    ensures found { IfOk result (AreRead (lexemes text.now tokens.now)) }
+    ensures fits { IfOk result (λ symbols. written symbols ≤ 16777216) }
+    ensures why { IfErr result (WhyUnreadOf (lexemes text.now tokens.now)) }
 {
     let mut prefixes = Prefixes::new(alloc);
     let at = read_prologue(alloc, text, tokens, &mut prefixes)?;
@@ -66,7 +77,7 @@ fn of_tokens(alloc: Global, text: &str, tokens: &[Token]) -> Result<Items<Symbol
     if is_too_deep(text, tokens) {
         return Err(QueryFault::TooLarge(Size::Nesting));
     }
-    Ok(behind_prologue(alloc, text, tokens)?)
+    behind_prologue(alloc, text, tokens)
 }
 
 /// What the tokens of a query text are to the grammar, in order, behind the prologue.
@@ -76,11 +87,16 @@ fn of_tokens(alloc: Global, text: &str, tokens: &[Token]) -> Result<Items<Symbol
 /// in this order is given: `TooLarge(Size::Text)` where the text has more than 262,144 bytes; `Lex` as
 /// `sparql_lex::tokens` says; `Unsupported` with the first token of the language that is not answered,
 /// wherever it stands; `TooLarge(Size::Nesting)` where more than 256 of `(` and `{` are open at one
-/// place. `NotAQuery` and `Scope` do not come from here.
+/// place; `TooLarge(Size::Written)` where the symbols write out more than 16,777,216 bytes. `NotAQuery` and
+/// `Scope` do not come from here.
 ///
-/// The time is linear in the bytes that are read and given, but for the look-up of prefixes in a map.
-/// A declared IRI is written out at each of its names, so far more bytes may be given than are read: up
-/// to about an eighth of the square of their number.
+/// What a symbol writes out is one byte for itself, its value, in which a name is its whole IRI, and what
+/// a tree must write again: at a comma or semicolon outside parentheses the longest value since triples
+/// could last begin, which is no shorter than their subject and verb, and in a table the longest name of a
+/// variable. So no tree of the symbols holds more than some three times the limit, however the text
+/// abbreviates it.
+///
+/// The time is linear in the bytes that are read and written out, but for the look-up of prefixes in a map.
 pub fn symbols(alloc: Global, text: &[u8]) -> Result<Items<Symbol>, QueryFault>
     ensures found { IfOk result (AreSymbols text.now) }
     ensures why { IfErr result (WhyNone text.now) }

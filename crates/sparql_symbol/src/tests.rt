@@ -1,5 +1,6 @@
 //! Texts, and what their tokens are to the grammar.
 
+use crate::written::{spend, whole_room};
 use crate::{Shape, Symbol, symbols};
 use sparql_tree::{QueryFault, Size};
 use std::alloc::{AllocError, Global};
@@ -30,6 +31,7 @@ fn shown_fault(alloc: Global, fault: QueryFault) -> Result<String, AllocError> {
         QueryFault::Unsupported { what } => format!(in alloc; "!what {}", what.as_str()),
         QueryFault::TooLarge(Size::Text) => String::from_str(alloc, "!text"),
         QueryFault::TooLarge(Size::Nesting) => String::from_str(alloc, "!nesting"),
+        QueryFault::TooLarge(Size::Written) => String::from_str(alloc, "!written"),
         _ => String::from_str(alloc, "!"),
     }
 }
@@ -562,6 +564,86 @@ fn accepts_at_the_limits(rt: HostRuntime) -> Result<(), AllocError> {
     for (front, times, piece, expected) in table {
         let found = count(alloc, front, times, piece).ok();
         assert_eq!(rt; found, Some(expected), "{piece:?}");
+    }
+    Ok(())
+}
+
+/// The bytes that a text writes out, if they are no more than may be.
+fn written(alloc: Global, text: &str) -> Option<usize> {
+    let mut room = whole_room();
+    for symbol in symbols(alloc, text.as_bytes()).ok()?.as_slice() {
+        room = spend(room, symbol)?;
+    }
+    Some(whole_room().left - room.left)
+}
+
+#[test]
+fn counts_what_is_written_out(rt: HostRuntime) {
+    let alloc = rt.alloc();
+    let table: [(&str, usize); 21] = [
+        ("", 0),
+        ("?s ?p ?o", 6),
+        ("?s ?p ?o , ?o", 10),
+        ("?sss ?p ?o , ?o", 14),
+        ("?s ?ppp ?o , ?o", 14),
+        ("?sss ?p ?o ; ?q ?o", 16),
+        ("?sss ?p ?o ; ?q ?o , ?o", 22),
+        ("?sss ?p ?o . ?s ?p ?o , ?o", 19),
+        ("{ ?sss ?p ?o } ?s ?p ?o , ?o", 20),
+        ("(?sss) ?s ?p ?o , ?o", 16),
+        ("(?sss, ?s)", 9),
+        ("((?s), ?sss)", 11),
+        ("(?s)), ?sss", 10),
+        ("?sss , (?s", 11),
+        ("SELECT ?ss { VALUES ?xyz { 1 2 } 1 }", 33),
+        ("VALUES (?x ?yz) { (1 2) }", 31),
+        ("VALUES ?x { 1 , }", 12),
+        ("PREFIX p: <a:b> p:c p:d", 10),
+        ("PREFIX p: <a:b> a", 1),
+        ("\"\"\"a\"\"\"@en 1.5 true", 14),
+        ("<rel> q:x AVG ;", 4),
+    ];
+    for (text, expected) in table {
+        assert_eq!(rt; written(alloc, text), Some(expected), "{text}");
+    }
+}
+
+/// A prefix of an IRI of so many bytes, and its name so often.
+fn names(alloc: Global, bytes: u32, times: u32, behind: &[u8]) -> Result<Vec<u8>, AllocError> {
+    let mut text = Vec::from_slice(alloc, b"PREFIX p: <a:")?;
+    for _ in 2..bytes {
+        text.push(b'x')?;
+    }
+    text.extend_from_slice(b"> ")?;
+    for _ in 0..times {
+        text.extend_from_slice(b"p: ")?;
+    }
+    text.extend_from_slice(behind)?;
+    Ok(text)
+}
+
+#[test]
+fn refuses_what_writes_out_too_much(rt: HostRuntime) -> Result<(), AllocError> {
+    let alloc = rt.alloc();
+    let table: [(u32, u32, &[u8], bool); 8] = [
+        (131_071, 128, b"", true),
+        (131_071, 128, b".", false),
+        (131_071, 129, b"", false),
+        (131_071, 127, b", p:", false),
+        (131_071, 126, b", p:", true),
+        (65_535, 256, b"", true),
+        (65_536, 256, b"", false),
+        (1_000, 16_761, b"", false),
+    ];
+    for (bytes, times, behind, expected) in table {
+        let text = names(alloc, bytes, times, behind)?;
+        match symbols(alloc, text.as_slice()) {
+            Ok(_) => assert!(rt; expected, "{bytes} {times}"),
+            Err(fault) => {
+                assert!(rt; !expected, "{bytes} {times}");
+                assert_eq!(rt; shown_fault(alloc, fault)?.as_str(), "!written");
+            }
+        }
     }
     Ok(())
 }

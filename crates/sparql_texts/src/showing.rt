@@ -317,19 +317,20 @@ fn show_query(alloc: Global, query: &Query) -> Result<String, AllocError> {
 }
 
 /// The refusal: `!lex` and a place, `!what` and a token, the limit that is passed, or `!query`.
-pub fn shown_fault(alloc: Global, fault: QueryFault) -> Result<String, AllocError> {
+pub(crate) fn shown_fault(alloc: Global, fault: QueryFault) -> Result<String, AllocError> {
     match fault {
         QueryFault::Lex { at } => format!(in alloc; "!lex {at}"),
         QueryFault::Unsupported { what } => format!(in alloc; "!what {}", what.as_str()),
         QueryFault::TooLarge(Size::Text) => String::from_str(alloc, "!text"),
         QueryFault::TooLarge(Size::Nesting) => String::from_str(alloc, "!nesting"),
+        QueryFault::TooLarge(Size::Written) => String::from_str(alloc, "!written"),
         QueryFault::NotAQuery => String::from_str(alloc, "!query"),
         _ => String::from_str(alloc, "!"),
     }
 }
 
 /// The tree of a text, or why it is refused.
-pub fn shown(alloc: Global, text: &[u8]) -> Result<String, AllocError> {
+pub(crate) fn shown(alloc: Global, text: &[u8]) -> Result<String, AllocError> {
     match read_tree(alloc, text) {
         Ok(query) => show_query(alloc, &query),
         Err(fault) => shown_fault(alloc, fault),
@@ -345,7 +346,7 @@ fn between(alloc: Global, around: (&str, &str), inner: &str) -> Result<String, A
 }
 
 /// Fails, with what is found in the line, where that is not what is expected of it.
-pub fn expect(alloc: Global, line: &str, found: &str, expected: &str) -> Result<(), Fail> {
+pub(crate) fn expect(alloc: Global, line: &str, found: &str, expected: &str) -> Result<(), Fail> {
     if found == expected {
         return Ok(());
     }
@@ -354,7 +355,7 @@ pub fn expect(alloc: Global, line: &str, found: &str, expected: &str) -> Result<
 
 /// Fails at the first of the lines whose text, between two others, is not read as the tree behind its
 /// arrow, between two others. A line without an arrow is to be no query.
-pub fn expect_trees(
+pub(crate) fn expect_trees(
     alloc: Global,
     lines: &str,
     around: (&str, &str),
