@@ -26,8 +26,9 @@ value_behind value shapes.Point bytes = 0
 value_behind value shapes.Close bytes = 0
 value_behind value _ bytes = max value bytes
 
--- the longest name of a variable
+-- the longest name of a variable since the last table began
 abbrev pub name_behind : ℕ → Shape → ℕ → ℕ
+name_behind name shapes.Values bytes = 0
 name_behind name shapes.Var bytes = max name bytes
 name_behind name _ bytes = name
 
@@ -50,7 +51,7 @@ repeated shapes.Comma value = value
 repeated shapes.Semicolon value = value
 repeated _ value = 0
 
--- the bytes that are written again at a symbol: the name in a table, a subject or verb outside parentheses
+-- the bytes that are written again at a symbol: a variable in a table, a subject or verb outside parentheses
 abbrev pub again : Passed → Shape → ℕ
 again b shape = if b.table then b.name else if b.parentheses == 0 then repeated shape b.value else 0
 

@@ -92,9 +92,8 @@ fn of_tokens(alloc: Global, text: &str, tokens: &[Token]) -> Result<Items<Symbol
 ///
 /// What a symbol writes out is one byte for itself, its value, in which a name is its whole IRI, and what
 /// a tree must write again: at a comma or semicolon outside parentheses the longest value since triples
-/// could last begin, which is no shorter than their subject and verb, and in a table the longest name of a
-/// variable. So no tree of the symbols holds more than some three times the limit, however the text
-/// abbreviates it.
+/// could last begin, among them those of their subject and verb, and in a table the longest name of its
+/// variables. So what a tree of the symbols holds is bounded too, however the text abbreviates it.
 ///
 /// The time is linear in the bytes that are read and written out, but for the look-up of prefixes in a map.
 pub fn symbols(alloc: Global, text: &[u8]) -> Result<Items<Symbol>, QueryFault>

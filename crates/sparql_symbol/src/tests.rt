@@ -580,7 +580,7 @@ fn written(alloc: Global, text: &str) -> Option<usize> {
 #[test]
 fn counts_what_is_written_out(rt: HostRuntime) {
     let alloc = rt.alloc();
-    let table: [(&str, usize); 21] = [
+    let table: [(&str, usize); 22] = [
         ("", 0),
         ("?s ?p ?o", 6),
         ("?s ?p ?o , ?o", 10),
@@ -595,7 +595,8 @@ fn counts_what_is_written_out(rt: HostRuntime) {
         ("((?s), ?sss)", 11),
         ("(?s)), ?sss", 10),
         ("?sss , (?s", 11),
-        ("SELECT ?ss { VALUES ?xyz { 1 2 } 1 }", 33),
+        ("SELECT ?ss { VALUES ?xyz { 1 2 } 1 }", 31),
+        ("VALUES ?xyz { 1 } VALUES ?x { 1 }", 28),
         ("VALUES (?x ?yz) { (1 2) }", 31),
         ("VALUES ?x { 1 , }", 12),
         ("PREFIX p: <a:b> p:c p:d", 10),

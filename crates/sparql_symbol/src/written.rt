@@ -18,7 +18,7 @@ pub struct Passed {
     pub table: bool,
     /// The bytes of the longest value since triples could last begin.
     pub value: usize,
-    /// The bytes of the longest name of a variable.
+    /// The bytes of the longest name of a variable since the last table began.
     pub name: usize,
 }
 
@@ -85,6 +85,7 @@ fn name_behind(name: usize, shape: Shape, bytes: usize) -> usize
     ensures { result ≡ spec.name_behind name shape bytes }
 {
     match shape {
+        Shape::Values => 0,
         Shape::Var => longer(name, bytes),
         _ => name,
     }
