@@ -17,14 +17,15 @@ use Rattle.sparql_grammar.specs.Symbols.{is}
 use Rattle.sparql_grammar.specs.Groups.{IsConstraint, constraint}
 use Rattle.sparql_grammar.proofs.GroupLaws.{constraint-finds}
 use Rattle.sparql_print.specs.ExprText.{expr_text, in_parens}
-use Rattle.sparql_print.specs.Printed.{IsTree, expr_symbols}
+use Rattle.sparql_print.specs.OfTrees.{IsOfTree}
+use Rattle.sparql_print.proofs.ExprSymbols.{expr_symbols}
 use Rattle.sparql_print.specs.Spelled.{AreSpelledIn}
 use Rattle.sparql_print.specs.Constraints.{SpellsConstraint}
 use Rattle.sparql_print.proofs.Gives.{Gives, whole_cut}
 use Rattle.sparql_print.proofs.ReadsBack.{reads_back, expr-of}
 use Rattle.sparql_print.proofs.Shown.{expr-shown, in_parens-shown}
 
-pub text-spells : (aggregates : Bool) (a : Expr) → IsTree aggregates a → AreSpelledIn a → SpellsConstraint aggregates (in_parens (expr_text a)) a
+pub text-spells : (aggregates : Bool) (a : Expr) → IsOfTree aggregates a → AreSpelledIn a → SpellsConstraint aggregates (in_parens (expr_text a)) a
 text-spells aggregates a w h =
     let shown = in_parens-shown (expr_text a) (λ ss. expr_symbols a ss) (expr-shown a h) in
     let ss : List Symbol = bare s.Open ∷ expr_symbols a (bare s.Close ∷ []) in

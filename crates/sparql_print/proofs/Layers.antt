@@ -7,7 +7,7 @@ use Rattle.sparql_tree.specs.declared.words.Function.{Function}
 use Rattle.sparql_tree.specs.declared.words.Function.TheVariants as functions
 use Rattle.sparql_symbol.specs.declared.symbol.Symbol.{Symbol}
 use Rattle.sparql_grammar.specs.Expressions.{IsExpr, or, OrTail, or_end, or_more, IsAnd, and, AndTail, and_end, and_more, IsRel, rel_one, rel_compare, rel_in, rel_not_in, IsList, list_none, list_some, ListTail, list_end, list_more, IsSum, sum, SumTail, sum_end, sum_plus, sum_minus, IsProduct, product, ProductTail, product_end, product_times, product_over, IsUnary, bare, not, plus, minus, IsAtom, constant, variable, parens, called, aggregated, IsCall, call, bound, IsAggregate, count_all, aggregate, takes}
-use Rattle.sparql_print.specs.Printed.{IsTree}
+use Rattle.sparql_print.specs.OfTrees.{IsOfTree}
 
 -- the list of expressions, and that of operands
 abbrev pub listed : Exprs → List Expr
@@ -33,11 +33,11 @@ operands_listed (ThenOperand inverse value rest) = ap (ThenOperand inverse value
 -- each is of a tree
 abbrev pub Trees : Bool → Exprs → Type 0
 Trees b EndOfExprs = Unit {0}
-Trees b (ThenExpr first rest) = IsTree b first × Trees b rest
+Trees b (ThenExpr first rest) = IsOfTree b first × Trees b rest
 
 abbrev pub OperandTrees : Bool → Operands → Type 0
 OperandTrees b EndOfOperands = Unit {0}
-OperandTrees b (ThenOperand inverse value rest) = IsTree b value × OperandTrees b rest
+OperandTrees b (ThenOperand inverse value rest) = IsOfTree b value × OperandTrees b rest
 
 -- two parts or more
 abbrev pub Chain : Bool → Exprs → Type 0
@@ -58,37 +58,37 @@ Arguments b function arguments = (Trees b arguments × (takes function (length (
 abbrev pub Layer : Bool → Expr → Type 0
 Layer b (Or parts) = Chain b parts
 Layer b (And parts) = Chain b parts
-Layer b (Not value) = IsTree b value
-Layer b (Plus value) = IsTree b value
-Layer b (Minus value) = IsTree b value
-Layer b (Compare op left right) = IsTree b left × IsTree b right
-Layer b (OneOf left items negated) = IsTree b left × Trees b items
-Layer b (Sum first rest) = IsTree b first × SomeOperands b rest
-Layer b (Product first rest) = IsTree b first × SomeOperands b rest
+Layer b (Not value) = IsOfTree b value
+Layer b (Plus value) = IsOfTree b value
+Layer b (Minus value) = IsOfTree b value
+Layer b (Compare op left right) = IsOfTree b left × IsOfTree b right
+Layer b (OneOf left items negated) = IsOfTree b left × Trees b items
+Layer b (Sum first rest) = IsOfTree b first × SomeOperands b rest
+Layer b (Product first rest) = IsOfTree b first × SomeOperands b rest
 Layer b (Call function arguments) = Arguments b function arguments
-Layer b (Aggregate kind distinct argument) = (b ≡ true) × IsTree false argument
+Layer b (Aggregate kind distinct argument) = (b ≡ true) × IsOfTree false argument
 Layer b (AggregateAll kind distinct) = (b ≡ true) × (kind ≡ kinds.Count)
 Layer b _ = Unit {0}
 
-expr-tree : {b : Bool} {ts rest : List Symbol} {a : Expr} → IsExpr b ts a rest → IsTree b a
+expr-tree : {b : Bool} {ts rest : List Symbol} {a : Expr} → IsExpr b ts a rest → IsOfTree b a
 expr-tree {ts = ts} {rest = rest} h = record { tokens = ts; rest = rest; spelled = h }
 
-and-tree : {b : Bool} {ts rest : List Symbol} {a : Expr} → IsAnd b ts a rest → IsTree b a
+and-tree : {b : Bool} {ts rest : List Symbol} {a : Expr} → IsAnd b ts a rest → IsOfTree b a
 and-tree h = expr-tree (or h or_end)
 
-rel-tree : {b : Bool} {ts rest : List Symbol} {a : Expr} → IsRel b ts a rest → IsTree b a
+rel-tree : {b : Bool} {ts rest : List Symbol} {a : Expr} → IsRel b ts a rest → IsOfTree b a
 rel-tree h = and-tree (and h and_end)
 
-sum-tree : {b : Bool} {ts rest : List Symbol} {a : Expr} → IsSum b ts a rest → IsTree b a
+sum-tree : {b : Bool} {ts rest : List Symbol} {a : Expr} → IsSum b ts a rest → IsOfTree b a
 sum-tree h = rel-tree (rel_one h)
 
-product-tree : {b : Bool} {ts rest : List Symbol} {a : Expr} → IsProduct b ts a rest → IsTree b a
+product-tree : {b : Bool} {ts rest : List Symbol} {a : Expr} → IsProduct b ts a rest → IsOfTree b a
 product-tree h = sum-tree (sum h sum_end)
 
-unary-tree : {b : Bool} {ts rest : List Symbol} {a : Expr} → IsUnary b ts a rest → IsTree b a
+unary-tree : {b : Bool} {ts rest : List Symbol} {a : Expr} → IsUnary b ts a rest → IsOfTree b a
 unary-tree h = product-tree (product h product_end)
 
-atom-tree : {b : Bool} {ts rest : List Symbol} {a : Expr} → IsAtom b ts a rest → IsTree b a
+atom-tree : {b : Bool} {ts rest : List Symbol} {a : Expr} → IsAtom b ts a rest → IsOfTree b a
 atom-tree h = unary-tree (bare h)
 
 or-trees : {b : Bool} {ts rest : List Symbol} {xs : List Expr} → OrTail b ts xs rest → Trees b (exprs xs)
@@ -163,5 +163,5 @@ mutual
   aggregate-layer (count_all i j d k m) = (refl, refl)
   aggregate-layer (aggregate i j d h m) = (refl, expr-tree h)
 
-pub layer_of : {b : Bool} {a : Expr} → IsTree b a → Layer b a
+pub layer_of : {b : Bool} {a : Expr} → IsOfTree b a → Layer b a
 layer_of h = expr-layer h.spelled

@@ -1,3 +1,4 @@
+pub mod ExprSymbols
 pub mod BareShapes
 pub mod BehindTriples
 pub mod Constraints

@@ -15,7 +15,7 @@ use Rattle.sparql_lex.proofs.KindStates.{read-token}
 use Rattle.sparql_symbol.specs.declared.symbol.Shape.TheVariants as s
 use Rattle.sparql_symbol.specs.declared.symbol.Symbol.{Symbol}
 use Rattle.sparql_symbol.specs.Symbols.{symbol, bare}
-use Rattle.sparql_print.specs.Printed.{term_symbols}
+use Rattle.sparql_print.proofs.ExprSymbols.{term_symbols}
 use Rattle.sparql_print.specs.Spelled.{IsConstant}
 use Rattle.sparql_print.proofs.Separate.{Separate, longest-by}
 use Rattle.sparql_print.proofs.Gives.{IsShown, Gives, done, piece, gives-then}

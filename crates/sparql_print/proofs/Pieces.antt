@@ -23,7 +23,7 @@ use Rattle.sparql_symbol.specs.Unsupported.{is_bracket}
 use Rattle.nt_text.proofs.TagLaws.{is_small}
 use Rattle.nt_text.proofs.WrittenText.{text_small, text_both}
 use Rattle.sparql_print.specs.ExprText.{spaced, op_text, function_text, aggregate_text, sum_sign, product_sign}
-use Rattle.sparql_print.specs.Printed.{op_shape, sum_shape, product_shape}
+use Rattle.sparql_print.proofs.ExprSymbols.{op_shape, sum_shape, product_shape}
 use Rattle.sparql_print.proofs.Separate.{longest-separate, sign-longest}
 use Rattle.sparql_print.proofs.Gives.{IsShown, Gives, done, gap, piece, gives-then}
 

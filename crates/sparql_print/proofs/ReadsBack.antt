@@ -19,7 +19,8 @@ use Rattle.sparql_grammar.specs.Symbols.{is, holds}
 use Rattle.sparql_grammar.specs.Terms as terms_of
 use Rattle.sparql_grammar.specs.Terms.{IsTerm}
 use Rattle.sparql_grammar.specs.Expressions.{IsDistinct, distinct, not_distinct, IsExpr, or, OrTail, or_end, or_more, IsAnd, and, AndTail, and_end, and_more, IsRel, rel_one, rel_compare, rel_in, rel_not_in, IsList, list_none, list_some, ListTail, list_end, list_more, IsSum, sum, SumTail, sum_end, sum_plus, sum_minus, IsProduct, product, ProductTail, product_end, product_times, product_over, IsUnary, bare, not, plus, minus, IsAtom, constant, variable, parens, called, aggregated, call, bound, IsAggregate, count_all, aggregate, takes, op_of, begins_number}
-use Rattle.sparql_print.specs.Printed.{IsTree, expr_symbols, joined_symbols, more_symbols, operand_symbols, term_symbols, op_shape, in_symbols, sum_shape, product_shape, distinct_symbols}
+use Rattle.sparql_print.specs.OfTrees.{IsOfTree}
+use Rattle.sparql_print.proofs.ExprSymbols.{expr_symbols, joined_symbols, more_symbols, operand_symbols, term_symbols, op_shape, in_symbols, sum_shape, product_shape, distinct_symbols}
 use Rattle.sparql_print.specs.Spelled.{AreSpelledIn, AreSpelledInAll, AreSpelledInOperands, IsConstant}
 use Rattle.sparql_print.proofs.Layers.{listed, listed_operands, exprs_listed, operands_listed, Trees, OperandTrees, Chain, SomeOperands, Arguments, layer_of}
 
@@ -156,7 +157,7 @@ call-by {b = b} function arguments rest (inr (name, f, e)) list =
 mutual
   unfolding expr_symbols AreSpelledIn
 
-  pub reads_back : {b : Bool} (a : Expr) (rest : List Symbol) → IsTree b a → AreSpelledIn a → IsAtom b (expr_symbols a rest) a rest
+  pub reads_back : {b : Bool} (a : Expr) (rest : List Symbol) → IsOfTree b a → AreSpelledIn a → IsAtom b (expr_symbols a rest) a rest
   reads_back (Var name) rest w h = variable holds
   reads_back (Const term) rest w h = constant (term-back term rest h)
   reads_back (Or parts) rest w h = parens is (or-back parts (symbols.bare s.Close ∷ rest) (layer_of w) h) is

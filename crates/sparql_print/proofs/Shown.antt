@@ -8,7 +8,7 @@ use Rattle.sparql_symbol.specs.declared.symbol.Symbol.{Symbol}
 use Rattle.sparql_symbol.specs.Symbols.{bare}
 use Rattle.nt_text.proofs.WrittenText.{text_small, text_both}
 use Rattle.sparql_print.specs.ExprText.{expr_text, expr_texts, operands_text, spaced, in_parens, behind, joined, list_text, op_text, in_text, sum_sign, product_sign, function_text, aggregate_text, distinct_text}
-use Rattle.sparql_print.specs.Printed.{expr_symbols, joined_symbols, more_symbols, operand_symbols, op_shape, in_symbols, sum_shape, product_shape, distinct_symbols}
+use Rattle.sparql_print.proofs.ExprSymbols.{expr_symbols, joined_symbols, more_symbols, operand_symbols, op_shape, in_symbols, sum_shape, product_shape, distinct_symbols}
 use Rattle.sparql_print.specs.Spelled.{AreSpelledIn, AreSpelledInAll, AreSpelledInOperands}
 use Rattle.sparql_print.proofs.Separate.{Separate}
 use Rattle.sparql_print.proofs.Gives.{IsShown, Gives, done, gap, gives-then}

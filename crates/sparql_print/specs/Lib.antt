@@ -1,8 +1,8 @@
 pub mod Constraints
 pub mod ExprText
+pub mod OfTrees
 pub mod PartText
 pub mod Pieces
-pub mod Printed
 pub mod QueryExpressions
 pub mod Spelled
 pub mod SpelledSymbols

@@ -11,7 +11,7 @@ ghost use Rattle.sparql_symbol.specs.Written.{written};
 ghost use Rattle.sparql_grammar.specs.Expressions.{IsExpr};
 ghost use Rattle.sparql_grammar.specs.Trees as grammar;
 ghost use Rattle.sparql_print.specs.Constraints.{SpellsConstraint, ReadsBack};
-ghost use Rattle.sparql_print.specs.Printed.{IsTree};
+ghost use Rattle.sparql_print.specs.OfTrees.{IsOfTree};
 ghost use Rattle.sparql_print.specs.QueryExpressions.{EachExpression};
 ghost use Rattle.sparql_print.specs.Spelled.{AreSpelledIn};
 ghost use Rattle.sparql_print.specs.SpelledSymbols.{AreSpelledSymbols};
@@ -19,7 +19,7 @@ ghost use Rattle.sparql_print.specs.SpelledSymbols.{AreSpelledSymbols};
 /// The text of an expression of a tree, whose names and terms can be written, spells in parentheses
 /// that expression (SPARQL 1.1, 19.8, Constraint).
 pub fn text_reads_back()
-    ensures { (aggregates : Bool) (a : Expr) → IsTree aggregates a → AreSpelledIn a
+    ensures { (aggregates : Bool) (a : Expr) → IsOfTree aggregates a → AreSpelledIn a
         → ReadsBack aggregates a }
 {}
 

@@ -1,4 +1,4 @@
--- The symbols of the text of an expression, and which expressions are those of trees (SPARQL 1.1, 19.8).
+-- The symbols of the text of an expression (SPARQL 1.1, 19.8).
 use Rattle.std.specs.Prelude.{ℕ, Bool, true, false, List, [], ◌∷◌, if◌then◌else◌}
 use Rattle.std.specs.Str.{bytes_eq}
 use Rattle.term_core.specs.Texts.{xsd_string}
@@ -11,7 +11,6 @@ use Rattle.sparql_symbol.specs.declared.symbol.Shape.{Shape}
 use Rattle.sparql_symbol.specs.declared.symbol.Shape.TheVariants as s
 use Rattle.sparql_symbol.specs.declared.symbol.Symbol.{Symbol}
 use Rattle.sparql_symbol.specs.Symbols.{symbol, bare}
-use Rattle.sparql_grammar.specs.Expressions.{IsExpr}
 
 -- what stands behind a string's quotes, before the rest: a tag, or ^^ and a datatype, which the one of plain strings lacks
 abbrev pub kind_symbols : List ℕ → List ℕ → List Symbol → List Symbol
@@ -90,9 +89,3 @@ unfoldable mutual
   pub operand_symbols : (Bool → Shape) → Operands → List Symbol → List Symbol
   operand_symbols sign EndOfOperands rest = rest
   operand_symbols sign (ThenOperand inverse value more) rest = bare (sign inverse) ∷ expr_symbols value (operand_symbols sign more rest)
-
--- some symbols are of this expression, where aggregates may stand or may not: it is of a tree
-pub record IsTree (aggregates : Bool) (a : Expr) : Type 0 where
-  pub tokens : List Symbol
-  pub rest : List Symbol
-  pub spelled : IsExpr aggregates tokens a rest
