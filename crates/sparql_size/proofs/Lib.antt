@@ -1,0 +1,9 @@
+pub mod Paid
+pub mod Terms
+pub mod Exprs
+pub mod Triples
+pub mod Entries
+pub mod Tables
+pub mod Groups
+pub mod Queries
+pub mod Counts
