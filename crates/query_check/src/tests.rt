@@ -79,10 +79,10 @@ fn repeated(alloc: Global, front: &str, count: usize, piece: &str, back: &str) -
     Some(text)
 }
 
-/// A query of a long name that is written out so often: with a prefix, as a subject, as a verb, or as the
+/// Queries of a name of some bytes that is written out so often: with a prefix, as a subject, as a verb, or as the
 /// variable of a table.
 fn long_names(alloc: Global, bytes: usize, times: usize) -> Option<[String; 4]> {
-    let name = repeated(alloc, "a:", bytes - 2, "x", "")?;
+    let name = repeated(alloc, "a:", bytes, "x", "")?;
     let prefix = format!(in alloc; "PREFIX p: <{name}> SELECT * {{ ?s ?p ?o FILTER(?o IN (1").ok()?;
     let subject = format!(in alloc; "SELECT * {{ <{name}> ?p ?o ").ok()?;
     let verb = format!(in alloc; "SELECT * {{ ?s <{name}> 1 ").ok()?;
@@ -104,10 +104,10 @@ fn long_names_are_written_out(rt: HostRuntime) {
         long_names(alloc, 30_000, 560),
     ) {
         (Some(fits), Some(longer)) => {
-            for text in &fits {
+            for text in fits {
                 assert!(rt; is_told(alloc, text.as_bytes(), true, "accepted\n"));
             }
-            for text in &longer {
+            for text in longer {
                 refuses(&rt, alloc, text.as_bytes(), "too large written\n");
             }
         }
