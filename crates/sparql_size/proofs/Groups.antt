@@ -21,7 +21,7 @@ constraint-paid (constraint_aggregate h) b = aggregate-paid h b
 
 point-paid : {ts rest : List Symbol} → IsPoint ts rest → (b : Passed) → Pays b ts 0 rest
 point-paid no_point b = pay-none b _
-point-paid (point i) b = pay-is b (record { parentheses = λ n. refl; table = λ t. refl }) i
+point-paid (point i) b = pay-is b refl i
 
 elements-both : (xs ys : List Element) → of_elements (elements (xs ++ ys)) ≡ of_elements (elements xs) + of_elements (elements ys)
 unfolding of_elements
@@ -42,7 +42,7 @@ mutual
 
   pub group-paid : {ts rest : List Symbol} {x : Group} → IsGroup ts x rest → (b : Passed) → AtGroup b → Pays b ts (of_group x) rest
   group-paid (group {first = first} {more = more} i h m j) b k =
-      pay-less (omega (arith, elements-both first more)) (pay-behind b (record { parentheses = λ n. refl; table = λ t. refl }) i (λ c p t.
+      pay-less (omega (arith, elements-both first more)) (pay-behind b refl i (λ c p t.
       pay-then {l = of_elements (elements more)} (triples-paid h c (same-level k p t)) (λ d q u.
       pay-less (omega arith) (pay-then {l = 0} (group_tail-paid m d (same-level k (q ∙ p) (u ∙ t))) (λ e r v. close-paid e (v ∙ (u ∙ (t ∙ k.table))) j)))))
 
@@ -55,11 +55,11 @@ mutual
 
   element-paid : {ts rest : List Symbol} {x : Element} → IsElement ts x rest → (b : Passed) → AtGroup b → Pays b ts (of_element x) rest
   element-paid (union h m) b k = pay-then (group-paid h b k) (λ c p t. union_tail-paid m c (same-level k p t))
-  element-paid (optional i h) b k = pay-behind b (record { parentheses = λ n. refl; table = λ t. refl }) i (λ c p t. group-paid h c (same-level k p t))
-  element-paid (without i h) b k = pay-behind b (record { parentheses = λ n. refl; table = λ t. refl }) i (λ c p t. group-paid h c (same-level k p t))
-  element-paid (filter i h) b k = pay-behind b (record { parentheses = λ n. refl; table = λ t. refl }) i (λ c p t. constraint-paid h c)
+  element-paid (optional i h) b k = pay-behind b refl i (λ c p t. group-paid h c (same-level k p t))
+  element-paid (without i h) b k = pay-behind b refl i (λ c p t. group-paid h c (same-level k p t))
+  element-paid (filter i h) b k = pay-behind b refl i (λ c p t. constraint-paid h c)
   element-paid (bind {name = name} i j h l n m) b k =
-      pay-behind b (record { parentheses = λ n. refl; table = λ t. refl }) i (λ c p t. pay-parens c j (λ d u. pay-then (expr-paid h d) (λ e q v. pay-behind e (record { parentheses = λ n. refl; table = λ t. refl }) l (λ f r w. pay-value f (record { parentheses = λ n. refl; table = λ t. refl }) n (length name) (omega arith)))) m)
+      pay-behind b refl i (λ c p t. pay-parens c j (λ d u. pay-then (expr-paid h d) (λ e q v. pay-behind e refl l (λ f r w. pay-value f refl n (length name) (omega arith)))) m)
   element-paid (values {us = us} (is {value = x}) h) b k =
       let c = behind b (symbol s.Values x) in
       let p = values-closed h c refl in
@@ -68,4 +68,4 @@ mutual
   union_tail-paid : {ts rest : List Symbol} {xs : List Group} → UnionTail ts xs rest → (b : Passed) → AtGroup b → Pays b ts (of_groups (groups xs)) rest
   union_tail-paid union_end b k = pay-none b _
   union_tail-paid (union_more i h m) b k =
-      pay-behind b (record { parentheses = λ n. refl; table = λ t. refl }) i (λ c p t. pay-then (group-paid h c (same-level k p t)) (λ d q u. union_tail-paid m d (same-level k (q ∙ p) (u ∙ t))))
+      pay-behind b refl i (λ c p t. pay-then (group-paid h c (same-level k p t)) (λ d q u. union_tail-paid m d (same-level k (q ∙ p) (u ∙ t))))

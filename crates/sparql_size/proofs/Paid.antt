@@ -1,5 +1,5 @@
 -- What symbols pay for: what they write three times, and 160 for each of them.
-use Rattle.std.proofs.Common.{◌≡◌, ◌∙◌, ◌+◌, ◌*◌, ◌≤◌, ℕ, pred, Bool, List, ◌∷◌, length, refl, ap, arith}
+use Rattle.std.proofs.Common.{◌≡◌, ◌∙◌, ◌+◌, ◌*◌, ◌≤◌, ℕ, pred, Bool, true, false, List, ◌∷◌, length, refl, ap, arith}
 use Rattle.sparql_symbol.specs.declared.symbol.Shape.{Shape}
 use Rattle.sparql_symbol.specs.declared.symbol.Shape.TheVariants as s
 use Rattle.sparql_symbol.specs.declared.symbol.Symbol.{Symbol}
@@ -22,10 +22,29 @@ pub record Pays (b : Passed) (ts : List Symbol) (k : ℕ) (rest : List Symbol) :
   pub parentheses : left.parentheses ≡ b.parentheses
   pub table : left.table ≡ b.table
 
--- a symbol of this shape opens and closes nothing
-pub record Quiet (shape : Shape) : Type 0 where
-  pub parentheses : (n : ℕ) → parentheses_behind n shape ≡ n
-  pub table : (t : Bool) → table_behind t shape ≡ t
+-- a symbol of this shape opens and closes neither parentheses nor a table
+abbrev pub is_quiet : Shape → Bool
+is_quiet s.Open = false
+is_quiet s.Close = false
+is_quiet s.Values = false
+is_quiet s.CloseBrace = false
+is_quiet _ = true
+
+abbrev truth : Bool → Bool
+truth t = t
+
+no_truth : {A : Type 0} → truth false ≡ true → A
+no_truth h = absurd cc
+
+same-parentheses : (shape : Shape) (n : ℕ) → is_quiet shape ≡ true → parentheses_behind n shape ≡ n
+same-parentheses s.Open n h = no_truth h
+same-parentheses s.Close n h = no_truth h
+same-parentheses _ n h = refl
+
+same-table : (shape : Shape) (t : Bool) → is_quiet shape ≡ true → table_behind t shape ≡ t
+same-table s.Values t h = no_truth h
+same-table s.CloseBrace t h = no_truth h
+same-table _ t h = refl
 
 pub pay-none : (b : Passed) (ts : List Symbol) → Pays b ts 0 ts
 pay-none b ts = record { left = b; paid = omega arith; parentheses = refl; table = refl }
@@ -39,24 +58,24 @@ pay-then p f =
     let q = f p.left p.parentheses p.table in
     record { left = q.left; paid = omega (arith, p.paid, q.paid); parentheses = q.parentheses ∙ p.parentheses; table = q.table ∙ p.table }
 
-pub pay-value : {shape : Shape} {v : List ℕ} {ts rest : List Symbol} (b : Passed) → Quiet shape → Holds shape v ts rest → (k : ℕ) → k ≤ 163 + 3 * length v → Pays b ts k rest
+pub pay-value : {shape : Shape} {v : List ℕ} {ts rest : List Symbol} (b : Passed) → is_quiet shape ≡ true → Holds shape v ts rest → (k : ℕ) → k ≤ 163 + 3 * length v → Pays b ts k rest
 pay-value {shape} {v} b quiet (holds {rest = rest}) k h = record {
   left = behind b (symbol shape v);
   paid = omega (arith, h, worth-more b (symbol shape v) rest);
-  parentheses = quiet.parentheses b.parentheses;
-  table = quiet.table b.table;
+  parentheses = same-parentheses shape b.parentheses quiet;
+  table = same-table shape b.table quiet;
 }
 
-pub pay-is : {shape : Shape} {ts rest : List Symbol} (b : Passed) → Quiet shape → Is shape ts rest → Pays b ts 0 rest
+pub pay-is : {shape : Shape} {ts rest : List Symbol} (b : Passed) → is_quiet shape ≡ true → Is shape ts rest → Pays b ts 0 rest
 pay-is {shape} b quiet (is {value = v} {rest = rest}) = record {
   left = behind b (symbol shape v);
   paid = omega (arith, worth-more b (symbol shape v) rest);
-  parentheses = quiet.parentheses b.parentheses;
-  table = quiet.table b.table;
+  parentheses = same-parentheses shape b.parentheses quiet;
+  table = same-table shape b.table quiet;
 }
 
 -- behind a symbol that opens and closes nothing
-pub pay-behind : {shape : Shape} {ts us rest : List Symbol} {k : ℕ} (b : Passed) → Quiet shape → Is shape ts us
+pub pay-behind : {shape : Shape} {ts us rest : List Symbol} {k : ℕ} (b : Passed) → is_quiet shape ≡ true → Is shape ts us
     → ((c : Passed) → c.parentheses ≡ b.parentheses → c.table ≡ b.table → Pays c us k rest) → Pays b ts k rest
 pay-behind b quiet i f = pay-less (omega arith) (pay-then (pay-is b quiet i) f)
 

@@ -17,21 +17,21 @@ use Rattle.sparql_size.proofs.Groups.{constraint-paid, group-paid}
 use Rattle.sparql_size.proofs.Counts.{symbols-fit}
 
 distinctness-paid : {d : Bool} {ts rest : List Symbol} → IsDistinctness ts d rest → (b : Passed) → Pays b ts 0 rest
-distinctness-paid (distinct_rows i) b = pay-is b (record { parentheses = λ n. refl; table = λ t. refl }) i
-distinctness-paid (reduced_rows i) b = pay-is b (record { parentheses = λ n. refl; table = λ t. refl }) i
+distinctness-paid (distinct_rows i) b = pay-is b refl i
+distinctness-paid (reduced_rows i) b = pay-is b refl i
 distinctness-paid all_rows b = pay-none b _
 
 -- a value with the name behind AS
 named-paid : {ts us vs ws xs rest : List Symbol} {name : Name} (b : Passed) (a : Expr) → Is s.Open ts us → ((c : Passed) → Pays c us (of_expr a) vs) → Is s.As vs ws
     → Holds s.Var name ws xs → Is s.Close xs rest → Pays b ts (of_expr a + length name) rest
 named-paid {name = name} b a i f j n l =
-    pay-parens b i (λ c t. pay-then (f c) (λ d p u. pay-behind d (record { parentheses = λ n. refl; table = λ t. refl }) j (λ e q v. pay-value e (record { parentheses = λ n. refl; table = λ t. refl }) n (length name) (omega arith)))) l
+    pay-parens b i (λ c t. pay-then (f c) (λ d p u. pay-behind d refl j (λ e q v. pay-value e refl n (length name) (omega arith)))) l
 
 abbrev of_item : SelectItem → ℕ
 of_item one = of_value one.value + length one.variable
 
 item-paid : {ts rest : List Symbol} {one : SelectItem} → IsItem ts one rest → (b : Passed) → Pays b ts (of_item one) rest
-item-paid (item_variable {name = name} n) b = pay-value b (record { parentheses = λ n. refl; table = λ t. refl }) n (0 + length name) (omega arith)
+item-paid (item_variable {name = name} n) b = pay-value b refl n (0 + length name) (omega arith)
 item-paid (item_value {a = a} i h j n l) b = named-paid b a i (λ c. expr-paid h c) j n l
 
 item_tail-paid : {ts rest : List Symbol} {xs : List SelectItem} → ItemTail ts xs rest → (b : Passed) → Pays b ts (of_items xs) rest
@@ -39,11 +39,11 @@ item_tail-paid item_end b = pay-none b _
 item_tail-paid (item_more h m) b = pay-then (item-paid h b) (λ c p t. item_tail-paid m c)
 
 selection-paid : {star : Bool} {ts rest : List Symbol} {xs : List SelectItem} → IsSelection ts star xs rest → (b : Passed) → Pays b ts (of_items xs) rest
-selection-paid (select_star i) b = pay-is b (record { parentheses = λ n. refl; table = λ t. refl }) i
+selection-paid (select_star i) b = pay-is b refl i
 selection-paid (select_items h m) b = pay-then (item-paid h b) (λ c p t. item_tail-paid m c)
 
 where-paid : {ts rest : List Symbol} → IsWhere ts rest → (b : Passed) → Pays b ts 0 rest
-where-paid (where_word i) b = pay-is b (record { parentheses = λ n. refl; table = λ t. refl }) i
+where-paid (where_word i) b = pay-is b refl i
 where-paid no_where b = pay-none b _
 
 abbrev of_key : GroupKey → ℕ
@@ -51,7 +51,7 @@ of_key one = of_expr one.value + of_name one.variable
 
 key-paid : {ts rest : List Symbol} {one : GroupKey} → IsKey ts one rest → (b : Passed) → Pays b ts (of_key one) rest
 unfolding of_expr
-key-paid (key_variable {name = name} n) b = pay-value b (record { parentheses = λ n. refl; table = λ t. refl }) n (length name + length name) (omega arith)
+key-paid (key_variable {name = name} n) b = pay-value b refl n (length name + length name) (omega arith)
 key-paid (key_call h) b = pay-less (omega arith) (call-paid h b)
 key-paid (key_value i h j) b = pay-less (omega arith) (pay-parens b i (λ c t. expr-paid h c) j)
 key-paid (key_named {a = a} i h j n l) b = named-paid b a i (λ c. expr-paid h c) j n l
@@ -62,7 +62,7 @@ key_tail-paid (key_more h m) b = pay-then (key-paid h b) (λ c p t. key_tail-pai
 
 grouping-paid : {ts rest : List Symbol} {xs : List GroupKey} → IsGrouping ts xs rest → (b : Passed) → Pays b ts (of_keys xs) rest
 grouping-paid no_grouping b = pay-none b _
-grouping-paid (grouping i j h m) b = pay-behind b (record { parentheses = λ n. refl; table = λ t. refl }) i (λ c p t. pay-behind c (record { parentheses = λ n. refl; table = λ t. refl }) j (λ d q u. pay-then (key-paid h d) (λ e r v. key_tail-paid m e)))
+grouping-paid (grouping i j h m) b = pay-behind b refl i (λ c p t. pay-behind c refl j (λ d q u. pay-then (key-paid h d) (λ e r v. key_tail-paid m e)))
 
 having_tail-paid : {ts rest : List Symbol} {xs : List Expr} → HavingTail ts xs rest → (b : Passed) → Pays b ts (of_conditions xs) rest
 having_tail-paid having_end b = pay-none b _
@@ -70,14 +70,14 @@ having_tail-paid (having_more h m) b = pay-then (constraint-paid h b) (λ c p t.
 
 having-paid : {ts rest : List Symbol} {xs : List Expr} → IsHaving ts xs rest → (b : Passed) → Pays b ts (of_conditions xs) rest
 having-paid no_having b = pay-none b _
-having-paid (having i h m) b = pay-behind b (record { parentheses = λ n. refl; table = λ t. refl }) i (λ c p t. pay-then (constraint-paid h c) (λ d q u. having_tail-paid m d))
+having-paid (having i h m) b = pay-behind b refl i (λ c p t. pay-then (constraint-paid h c) (λ d q u. having_tail-paid m d))
 
 order_key-paid : {ts rest : List Symbol} {one : OrderKey} → IsOrderKey ts one rest → (b : Passed) → Pays b ts (of_expr one.value) rest
 unfolding of_expr
-order_key-paid (ascending i j h l) b = pay-behind b (record { parentheses = λ n. refl; table = λ t. refl }) i (λ c p t. pay-parens c j (λ d u. expr-paid h d) l)
-order_key-paid (descending i j h l) b = pay-behind b (record { parentheses = λ n. refl; table = λ t. refl }) i (λ c p t. pay-parens c j (λ d u. expr-paid h d) l)
+order_key-paid (ascending i j h l) b = pay-behind b refl i (λ c p t. pay-parens c j (λ d u. expr-paid h d) l)
+order_key-paid (descending i j h l) b = pay-behind b refl i (λ c p t. pay-parens c j (λ d u. expr-paid h d) l)
 order_key-paid (order_constraint h) b = constraint-paid h b
-order_key-paid (order_variable {name = name} n) b = pay-value b (record { parentheses = λ n. refl; table = λ t. refl }) n (length name) (omega arith)
+order_key-paid (order_variable {name = name} n) b = pay-value b refl n (length name) (omega arith)
 
 order_tail-paid : {ts rest : List Symbol} {xs : List OrderKey} → OrderTail ts xs rest → (b : Passed) → Pays b ts (of_order xs) rest
 order_tail-paid order_end b = pay-none b _
@@ -85,7 +85,7 @@ order_tail-paid (order_more h m) b = pay-then (order_key-paid h b) (λ c p t. or
 
 ordering-paid : {ts rest : List Symbol} {xs : List OrderKey} → IsOrdering ts xs rest → (b : Passed) → Pays b ts (of_order xs) rest
 ordering-paid no_ordering b = pay-none b _
-ordering-paid (ordering i j h m) b = pay-behind b (record { parentheses = λ n. refl; table = λ t. refl }) i (λ c p t. pay-behind c (record { parentheses = λ n. refl; table = λ t. refl }) j (λ d q u. pay-then (order_key-paid h d) (λ e r v. order_tail-paid m e)))
+ordering-paid (ordering i j h m) b = pay-behind b refl i (λ c p t. pay-behind c refl j (λ d q u. pay-then (order_key-paid h d) (λ e r v. order_tail-paid m e)))
 
 -- the symbols of a query as it is written, but for those of its slice, which hold no text
 select-paid : {ts : List Symbol} {query : Query} → IsSelect ts query → (rest : List Symbol) × Pays nothing ts (of_query query) rest
@@ -93,7 +93,7 @@ select-paid (select {cs = cs} {items = items} {body = body} {keys = keys} {condi
     let after = of_keys keys + (of_conditions conditions + of_order order) in
     let all = of_items items + (of_group body + after) in (
       cs,
-      pay-behind nothing (record { parentheses = λ n. refl; table = λ t. refl }) i (λ b p t. pay-less (omega arith) (pay-then {l = all} (distinctness-paid d b) (λ c q u.
+      pay-behind nothing refl i (λ b p t. pay-less (omega arith) (pay-then {l = all} (distinctness-paid d b) (λ c q u.
           pay-then {l = of_group body + after} (selection-paid l c) (λ e r v.
           pay-less (omega arith) (pay-then {l = of_group body + after} (where-paid w e) (λ f x y.
           pay-then {l = after} (group-paid g f (record { parentheses = x ∙ (r ∙ (q ∙ p)); table = y ∙ (v ∙ (u ∙ t)) })) (λ m z a.

@@ -200,10 +200,10 @@ same-paid (same {subject = subject} {verb = verb} {found = found} {more = more} 
 
 block-paid : {ts rest : List Symbol} {ps : List Pattern} → IsBlock ts ps rest → (b : Passed) → AtGroup b → Pays b ts (of_patterns ps) rest
 block-paid (block_one h) b k = same-paid h b k
-block-paid (block_point h i) b k = pay-less (omega arith) (pay-then {l = 0} (same-paid h b k) (λ c p t. pay-is c (record { parentheses = λ n. refl; table = λ t. refl }) i))
+block-paid (block_point h i) b k = pay-less (omega arith) (pay-then {l = 0} (same-paid h b k) (λ c p t. pay-is c refl i))
 block-paid (block_more {found = found} {more = more} h i m) b k =
     pay-less (omega (arith, patterns-both found more))
-    (pay-then {l = of_patterns more} (same-paid h b k) (λ c p t. pay-behind c (record { parentheses = λ n. refl; table = λ t. refl }) i (λ d q u. block-paid m d (same-level k (q ∙ p) (u ∙ t)))))
+    (pay-then {l = of_patterns more} (same-paid h b k) (λ c p t. pay-behind c refl i (λ d q u. block-paid m d (same-level k (q ∙ p) (u ∙ t)))))
 
 pub triples-paid : {ts rest : List Symbol} {xs : List Element} → IsTriples ts xs rest → (b : Passed) → AtGroup b → Pays b ts (of_elements (elements xs)) rest
 unfolding of_elements
