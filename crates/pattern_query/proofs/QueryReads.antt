@@ -6,8 +6,8 @@ use Rattle.std.proofs.lemmas.Str.{IsUtf8-from_is_utf8, is_utf8-from_IsUtf8}
 use Rattle.term_core.specs.declared.pattern.Pattern.{Pattern}
 use Rattle.term_core.specs.Bags.{In}
 use Rattle.term_core.specs.Mappings.{Name}
-use Rattle.sparql_tree.specs.Algebra.{is_variable}
-use Rattle.sparql_tree.specs.Bgp.{names_in, pattern_of}
+use Rattle.sparql_tree.specs.Bgp.{is_variable}
+use Rattle.term_core.specs.Patterns.{names_in, pattern_of}
 use Rattle.pattern_query.specs.declared.query.SelectQuery.{SelectQuery}
 use Rattle.pattern_query.specs.declared.query.QueryFault.{QueryFault}
 use Rattle.pattern_query.specs.declared.query.QueryFault.TheVariants as faults

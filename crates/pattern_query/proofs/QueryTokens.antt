@@ -9,12 +9,13 @@ use Rattle.std.proofs.lemmas.List.Elements.{All-nil, All-cons}
 use Rattle.std.proofs.lemmas.Str.{IsUtf8-from_ascii}
 use Rattle.std.proofs.lemmas.Str.Ascii.{IsAscii-from_all}
 use Rattle.std.specs.List.{All, list_all}
-use Rattle.term_core.specs.Characters.{is_letter, AreAll}
+use Rattle.term_core.specs.Characters.{is_letter, AreAll, front, after, begins}
 use Rattle.pattern_query.specs.declared.query.QueryFault.{QueryFault}
 use Rattle.pattern_query.specs.declared.query.QueryFault.TheVariants as faults
 use Rattle.pattern_query.specs.declared.query_text.Token.{Token}
 use Rattle.pattern_query.specs.declared.query_text.Token.TheVariants as kinds
-use Rattle.pattern_query.specs.Terminals.{is_space, is_name, front, after, begins, IsIri, IsString}
+use Rattle.term_core.specs.Tokens.{is_space}
+use Rattle.pattern_query.specs.Terminals.{is_name, IsIri, IsString}
 use Rattle.pattern_query.specs.Query.{IsWord, IsVariable, IsToken, IsLongest, AreTokens}
 use Rattle.pattern_query.specs.QueryReading.{◌>>=◌, Reads, text_at, iri_at, string_at, token_at, variable_at, word_at, sign_of, tokens_at, tokens_there, tokens_of, with_front}
 use Rattle.pattern_query.proofs.Utf8.{text_at_utf8}

@@ -8,8 +8,8 @@ use Rattle.term_core.specs.declared.pattern.Pattern.{Pattern}
 use Rattle.term_core.specs.Bags.{In}
 use Rattle.term_core.specs.Mappings.{Name, has_name}
 use Rattle.term_core.proofs.Bags.{In-append_left, In-append_right, In-append_cases, In-map}
-use Rattle.sparql_tree.specs.Algebra.{is_variable}
-use Rattle.sparql_tree.specs.Bgp.{names_at, names_in, position_of, pattern_of}
+use Rattle.sparql_tree.specs.Bgp.{is_variable}
+use Rattle.term_core.specs.Patterns.{names_at, names_in, position_of, pattern_of}
 use Rattle.sparql_tree.proofs.Visible.{apart}
 use Rattle.term_core.specs.Characters.{AreAll}
 use Rattle.pattern_query.specs.declared.query_text.Token.{Token}

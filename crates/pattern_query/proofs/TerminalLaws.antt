@@ -5,8 +5,9 @@ use Rattle.std.proofs.lemmas.Bool.Decides.{nat_tests}
 use Rattle.std.specs.List.{list_all}
 use Rattle.std.specs.Str.{is_utf8}
 use Rattle.std.proofs.lemmas.Str.{IsUtf8-from_is_utf8}
-use Rattle.term_core.specs.Characters.{is_iri, is_plain, AreAll}
-use Rattle.pattern_query.specs.Terminals.{front, after, begins, has_scheme, AreCharacters, IsIri, IsString}
+use Rattle.term_core.specs.Characters.{is_iri, is_plain, AreAll, front, after, begins}
+use Rattle.term_core.specs.Names.{has_scheme}
+use Rattle.pattern_query.specs.Terminals.{AreCharacters, IsIri, IsString}
 use Rattle.pattern_query.specs.QueryReading.{◌>>=◌, expect, text_at, iri_at, string_at}
 use Rattle.pattern_query.proofs.Encoded.{characters_of, bytes_of, utf8_of}
 use Rattle.pattern_query.proofs.Utf8.{text_at_utf8}

@@ -8,10 +8,11 @@ use Rattle.term_core.specs.declared.pattern.Place.TheVariants as places
 use Rattle.term_core.specs.declared.pattern.Pattern.{Pattern}
 use Rattle.term_core.specs.Mappings.{Name, has_name}
 use Rattle.term_core.specs.Texts.{xsd_string}
-use Rattle.term_core.specs.Characters.{is_letter, AreAll}
+use Rattle.term_core.specs.Characters.{is_letter, AreAll, begins}
 use Rattle.pattern_query.specs.declared.query_text.Token.{Token}
 use Rattle.pattern_query.specs.declared.query_text.Token.TheVariants as kinds
-use Rattle.pattern_query.specs.Terminals.{is_space, is_name, begins, IsIri, IsString}
+use Rattle.term_core.specs.Tokens.{is_space}
+use Rattle.pattern_query.specs.Terminals.{is_name, IsIri, IsString}
 
 -- ---- tokens
 

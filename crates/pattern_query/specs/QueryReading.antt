@@ -10,12 +10,14 @@ use Rattle.term_core.specs.declared.pattern.Place.TheVariants as places
 use Rattle.term_core.specs.declared.pattern.Pattern.{Pattern}
 use Rattle.term_core.specs.Mappings.{Name, has_name}
 use Rattle.term_core.specs.Texts.{xsd_string}
-use Rattle.term_core.specs.Characters.{is_letter, is_iri, is_plain}
+use Rattle.term_core.specs.Characters.{is_letter, is_iri, is_plain, front, after}
 use Rattle.pattern_query.specs.declared.query.QueryFault.{QueryFault}
 use Rattle.pattern_query.specs.declared.query.QueryFault.TheVariants as faults
 use Rattle.pattern_query.specs.declared.query_text.Token.{Token}
 use Rattle.pattern_query.specs.declared.query_text.Token.TheVariants as kinds
-use Rattle.pattern_query.specs.Terminals.{is_space, is_name, front, after, has_scheme}
+use Rattle.term_core.specs.Tokens.{is_space}
+use Rattle.pattern_query.specs.Terminals.{is_name}
+use Rattle.term_core.specs.Names.{has_scheme}
 use Rattle.pattern_query.specs.Query.{is_keyword, variables_of, with_new}
 
 -- a step, and where it read something the next

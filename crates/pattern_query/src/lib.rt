@@ -4,8 +4,6 @@
 mod query;
 mod query_laws;
 mod query_names;
-#[cfg(test)]
-mod query_tests;
 mod query_text;
 mod terminals;
 

@@ -7,8 +7,8 @@ ghost use Rattle.term_core.specs.declared.pattern.Place.TheVariants as places;
 ghost use Rattle.term_core.specs.declared.term.Term.TheVariants as terms;
 ghost use Rattle.term_core.specs.Mappings.{Name};
 ghost use Rattle.term_core.specs.Texts.{xsd_string};
-ghost use Rattle.sparql_tree.specs.Algebra.{is_variable};
-ghost use Rattle.sparql_tree.specs.Bgp.{names_in, pattern_of};
+ghost use Rattle.sparql_tree.specs.Bgp.{is_variable};
+ghost use Rattle.term_core.specs.Patterns.{names_in, pattern_of};
 ghost use Rattle.pattern_query.specs.Query.{IsQuery, variables_at, variables_of, is_keyword};
 ghost use Rattle.pattern_query.specs.QueryReading.{
   Reads,
@@ -91,21 +91,21 @@ fn read_object(alloc: Global, token: &Token) -> Result<Place, QueryFault>
     }
 }
 
+/// The literal of a copy of a string.
+fn plain_copy(alloc: Global, lexical: &Text) -> Result<Term, Memory>
+    ensures { IfOk result (λ term. term ≡ terms.Literal lexical.now xsd_string []) }
+{
+    let copy = lexical.copy(alloc)?;
+    Term::plain(alloc, copy)
+}
+
 /// The literal of a string, which has the datatype xsd:string and no tag (SPARQL 1.1, section 4.1.2).
 fn plain_literal(alloc: Global, lexical: &Text) -> Result<Place, QueryFault>
     ensures { Reads (λ place. place) result (Some (places.Term (terms.Literal lexical.now xsd_string []))) }
 {
-    match (
-        lexical.copy(alloc),
-        Text::from_bytes(alloc, b"http://www.w3.org/2001/XMLSchema#string"),
-        Text::from_bytes(alloc, b""),
-    ) {
-        (Ok(lexical), Ok(datatype), Ok(lang)) => Ok(Place::Term(Term::Literal {
-            lexical,
-            datatype,
-            lang,
-        })),
-        _ => Err(QueryFault::Memory),
+    match plain_copy(alloc, lexical) {
+        Ok(term) => Ok(Place::Term(term)),
+        Err(Memory) => Err(QueryFault::Memory),
     }
 }
 

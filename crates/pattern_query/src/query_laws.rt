@@ -5,8 +5,8 @@ ghost use Rattle.std.specs.Prelude.{◌≡◌, ◌↔◌, List, ℕ, Some, true}
 ghost use Rattle.term_core.specs.declared.pattern.Pattern.{Pattern};
 ghost use Rattle.term_core.specs.Bags.{In};
 ghost use Rattle.term_core.specs.Mappings.{Name};
-ghost use Rattle.sparql_tree.specs.Algebra.{is_variable};
-ghost use Rattle.sparql_tree.specs.Bgp.{names_in, pattern_of};
+ghost use Rattle.sparql_tree.specs.Bgp.{is_variable};
+ghost use Rattle.term_core.specs.Patterns.{names_in, pattern_of};
 ghost use Rattle.pattern_query.specs.Query.{IsQuery};
 ghost use Rattle.pattern_query.specs.QueryReading.{query_at};
 

@@ -1,12 +1,14 @@
 //! Terminals of a query: classes of characters, and readers of an IRI and a string.
 
-ghost use Rattle.std.specs.Prelude.{◌≡◌, ◌≢◌, ◌==◌, ◌≤◌, length};
-ghost use Rattle.pattern_query.specs.Terminals.{is_in, is_space, front, after, begins, has_scheme};
+ghost use Rattle.std.specs.Prelude.{◌≡◌, ◌≢◌, ◌≤◌, length};
+ghost use Rattle.pattern_query.specs.Terminals.{is_in};
+ghost use Rattle.term_core.specs.Tokens.{is_space};
+ghost use Rattle.term_core.specs.Characters.{front, after};
 ghost use Rattle.pattern_query.specs.QueryReading.{Reads, expect, text_at, iri_at, string_at};
 
 use crate::QueryFault;
 use std::alloc::Global;
-use term_core::{Text, TextFault};
+use term_core::{Text, TextFault, has_scheme};
 
 /// A class of characters. Each holds all or none of the characters from U+0080 on, and so all or
 /// none of the bytes from 128 on.
@@ -21,9 +23,6 @@ pub enum Class {
     Iri,
     /// What may stand in a string as it is: no quote, backslash, LF or CR (STRING_LITERAL2).
     Plain,
-    /// What may stand in a scheme behind its first letter: ASCII letters and digits, `+`, `-` and
-    /// `.` (RFC 3986, section 3.1).
-    Scheme,
 }
 
 /// Whether a byte is of the class.
@@ -41,11 +40,6 @@ pub fn is_in(class: Class, byte: u8) -> bool
                 )
         }
         Class::Plain => !matches!(byte, b'"' | b'\\' | b'\n' | b'\r'),
-        Class::Scheme => {
-            byte.is_ascii_alphabetic()
-                || byte.is_ascii_digit()
-                || matches!(byte, b'+' | b'-' | b'.')
-        }
     }
 }
 
@@ -72,16 +66,6 @@ pub fn skip_spaces(bytes: &[u8]) -> &[u8]
     rest
 }
 
-/// Whether the text's first byte is this one. An empty text has none.
-fn begins(byte: u8, bytes: &[u8]) -> bool
-    ensures { result ≡ begins (λ c. c == byte) bytes.now }
-{
-    match bytes {
-        [first, ..] => *first == byte,
-        [] => false,
-    }
-}
-
 /// What is behind a byte that the text has to begin with. `Form` comes exactly where it begins
 /// otherwise; `Memory` never does.
 fn expect_byte(byte: u8, bytes: &[u8]) -> Result<&[u8], QueryFault>
@@ -104,20 +88,6 @@ pub fn text_of(alloc: Global, bytes: &[u8]) -> Result<Text, QueryFault>
         Ok(text) => Ok(text),
         Err(TextFault::NotUtf8 { .. }) => Err(QueryFault::Form),
         Err(TextFault::Memory) => Err(QueryFault::Memory),
-    }
-}
-
-/// Whether an IRI begins with a scheme and a colon, as one that is not relative does (RFC 3986,
-/// section 3.1).
-fn has_scheme(iri: &[u8]) -> bool
-    ensures { result ≡ has_scheme iri.now }
-{
-    match iri {
-        [first, more @ ..] => {
-            let (_, rest) = span(Class::Scheme, more);
-            first.is_ascii_alphabetic() && begins(b':', rest)
-        }
-        [] => false,
     }
 }
 

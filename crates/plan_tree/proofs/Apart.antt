@@ -5,12 +5,13 @@ use Rattle.term_core.specs.declared.term.Triple.{Triple}
 use Rattle.term_core.specs.Bags.{In, AreDistinct}
 use Rattle.term_core.specs.Mappings.{Row}
 use Rattle.term_core.proofs.Merges.{Some_same}
-use Rattle.sparql_tree.specs.Bgp.{Pattern}
-use Rattle.plan_tree.specs.Trace.{Plan, rows_plan, join_plan, project_plan, range, Entries, trace}
+use Rattle.term_core.specs.Patterns.{Pattern}
+use Rattle.plan_tree.specs.Trace.{Plan, rows_plan, join_plan, project_plan, Entries, trace}
+use Rattle.term_core.specs.Index.{range}
 use Rattle.plan_tree.specs.States.{Inner, idle, opened, at_triple, State, table_state, join_state, InnerAt, Stands, StandsAt}
 use Rattle.plan_tree.proofs.Standing.{not_done}
-use Rattle.plan_tree.proofs.Ranges.{from_In-range, range_distinct}
-use Rattle.plan_tree.proofs.Ranked.{In-slice_get, ids_same}
+use Rattle.term_core.proofs.Ranges.{from_In-range, range_distinct}
+use Rattle.term_core.proofs.Ranked.{In-slice_get, ids_same}
 
 -- a list without repeats has each element at one place
 distinct_at : {X : Type 0} (xs : List X) (i j : ℕ) (x : X) → AreDistinct xs → slice_get xs i ≡ Some x → slice_get xs j ≡ Some x → i ≡ j

@@ -1,12 +1,8 @@
-pub mod Orders
-pub mod Ranges
-pub mod Stretches
 pub mod Made
 pub mod Traces
 pub mod Solutions
 pub mod Pieces
 pub mod Standing
-pub mod Ranked
 pub mod Apart
 pub mod Spelled
 pub mod Runs

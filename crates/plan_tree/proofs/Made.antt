@@ -9,12 +9,14 @@ use Rattle.term_core.specs.Bags.{In, AreDistinct, SameBag}
 use Rattle.term_core.specs.Mappings.{Name, Row, value, same_name, same_term, joined, restricted, IsJoin}
 use Rattle.term_core.proofs.Bags.{In-append_left, In-append_right, In-filter_map, from_In-filter_map, AreDistinct-filter_map, same_members}
 use Rattle.term_core.proofs.Merges.{names_same, terms_same, term_itself, Some_same, not_some, cond_some, same_row, Below, both_true, and_true, joined_to, joined_from}
-use Rattle.sparql_tree.specs.Bgp.{Position, Known, Named, Pattern, names_at, names_in, names_of, filled, full_solutions, IsFull}
+use Rattle.term_core.specs.Patterns.{Position, Known, Named, Pattern, names_at, names_in, filled, fits, agrees}
+use Rattle.sparql_tree.specs.Bgp.{names_of, full_solutions, IsFull}
 use Rattle.sparql_tree.proofs.Assignments.{value-insert, inserted_at}
 use Rattle.sparql_tree.proofs.Full.{Becomes, becomes_to, becomes_from, becomes_more, one_triple, part_of, full_to, full_from, full_distinct, same_part, part_value, part_within}
-use Rattle.plan_tree.specs.Trace.{fits, agrees, range, put, bind_at, extended, made_of}
+use Rattle.term_core.specs.Index.{range}
+use Rattle.plan_tree.specs.Trace.{put, bind_at, extended, made_of}
 use Rattle.plan_tree.specs.Laws.{IsExtended, ExtendedIs}
-use Rattle.plan_tree.proofs.Ranges.{In-range, from_In-range, range_distinct}
+use Rattle.term_core.proofs.Ranges.{In-range, from_In-range, range_distinct}
 
 -- what it is to bind one position
 pub record Bound (at : Position) (term : Term) (row k : Row) : Type 0 where

@@ -6,7 +6,7 @@ use Rattle.std.proofs.lemmas.List.{drop-drop, drop_all, take-append-drop}
 use Rattle.term_core.specs.declared.term.Triple.{Triple}
 use Rattle.plan_tree.specs.Trace.{Plan, trace, steps, rows_of}
 use Rattle.plan_tree.specs.Spelling.{plan_bytes, nodes}
-use Rattle.plan_tree.specs.Pages.{Page, IsNext, page_end, IsPage, IsRun, AreQuanta, rows_in, steps_in, next_length, longest_in}
+use Rattle.plan_tree.specs.Pages.{Page, IsNext, page_end, IsPage, IsRun, AreQuanta, rows_in, steps_in, next_length, longest_plan_in}
 use Rattle.plan_tree.specs.StateLaws.{AreWhole, HasOne, TakesSteps, GoesRound}
 use Rattle.plan_tree.proofs.Traces.{rows_of-append}
 use Rattle.plan_tree.proofs.Spelled.{bounded}
@@ -43,7 +43,7 @@ module _ (D : List Triple) (plan : Plan) (text : List ℕ) (quanta : ℕ → ℕ
   next_short n None h = omega arith
   next_short n (Some bytes) h = omega (arith, ap (λ w. length w) h.2, bounded D plan text h.0 n h.1)
 
-  pub followed_short : (k n : ℕ) (pages : List Page) → IsRun D plan text quanta k n pages → longest_in pages ≤ 65 + 14 * nodes plan
+  pub followed_short : (k n : ℕ) (pages : List Page) → IsRun D plan text quanta k n pages → longest_plan_in pages ≤ 65 + 14 * nodes plan
   followed_short k n [] e = omega arith
   followed_short k n (page ∷ pages) (h, is, rest) =
       omega (arith, next_short (page_end D plan n (quanta k)) page.next is.next_is, followed_short (k + 1) (n + page.steps) pages rest)

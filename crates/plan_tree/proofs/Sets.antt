@@ -1,66 +1,29 @@
 -- States and pages depend on the data's members alone.
 use Rattle.std.proofs.Common.{◌≡◌, ℕ, zero, suc, ◌+◌, ◌-◌, ◌<◌, min, List, [], ◌∷◌, ◌++◌, length, take, drop, Option, Some, None, refl, sym, ap, ◌∙◌, subst}
-use Rattle.std.specs.Prelude.{flat_map, slice_get}
-use Rattle.std.specs.Ordering.{is_lt}
+use Rattle.std.specs.Prelude.{slice_get}
 use Rattle.sha2.specs.Sha256.{sha256}
-use Rattle.term_core.specs.declared.term.Term.{Term}
 use Rattle.term_core.specs.declared.term.Triple.{Triple}
-use Rattle.term_core.specs.Order.{term_cmp}
-use Rattle.term_core.specs.Texts.{triple_text}
-use Rattle.term_core.specs.Bags.{In}
-use Rattle.term_core.specs.Mappings.{Row, same_term}
-use Rattle.term_core.proofs.Bags.{In-flat_map, from_In-flat_map, same_members}
-use Rattle.term_core.proofs.Merges.{terms_same, term_itself}
-use Rattle.term_core.proofs.Distinct.{In-distinct, from_In-distinct}
-use Rattle.sparql_tree.specs.Bgp.{Pattern, parts, terms_of}
-use Rattle.sparql_tree.specs.Laws.{HaveSame}
-use Rattle.plan_tree.specs.Index.{by_subject, triple_cmp, in_order}
+use Rattle.term_core.specs.Bags.{HaveSame}
+use Rattle.term_core.specs.Mappings.{Row}
+use Rattle.term_core.specs.Patterns.{Pattern}
+use Rattle.term_core.proofs.Sets.{data_id_same, rank_same, ids_same}
 use Rattle.plan_tree.specs.Trace.{Plan, rows_plan, join_plan, project_plan, Entries, join_entries, triple_entries, trace, steps, rows_of}
-use Rattle.plan_tree.specs.States.{rank, ids_of, Inner, idle, opened, at_triple, State, table_state, join_state, before, made_before, InnerAt, Stands}
-use Rattle.plan_tree.specs.Spelling.{data_id, state_bytes, plan_bytes}
+use Rattle.plan_tree.specs.States.{Inner, idle, opened, at_triple, State, table_state, join_state, pieces_before, made_before, InnerAt, Stands}
+use Rattle.plan_tree.specs.Spelling.{state_bytes, plan_bytes}
 use Rattle.plan_tree.specs.Pages.{Page, IsNext, page_end, IsPage, IsRun}
 use Rattle.plan_tree.specs.StateLaws.{AreAlike}
-use Rattle.plan_tree.proofs.Ranges.{listing_is, range_same}
+use Rattle.term_core.proofs.Ranges.{range_same}
 use Rattle.plan_tree.proofs.Traces.{trace_same}
-use Rattle.plan_tree.proofs.Ranked.{terms_distinct, length-filter_same}
 
-module _ (D E : List Triple) (same : HaveSame D E) where
-  listed : in_order (triple_cmp by_subject) D ≡ in_order (triple_cmp by_subject) E
-  listed =
-      let own = (listing_is by_subject D).is in
-      (listing_is by_subject E).alone (in_order (triple_cmp by_subject) D) (record {
-        ordered = own.ordered;
-        same = record { to = λ t i. same.to t (own.same.to t i); from = λ t i. own.same.from t (same.from t i) };
-      })
-
-  pub data_id_same : data_id D ≡ data_id E
-  data_id_same = ap (λ ts. sha256 (flat_map triple_text ts)) listed
-
-  pub plan_bytes_same : (text : List ℕ) (state : State) → plan_bytes D text state ≡ plan_bytes E text state
-  plan_bytes_same text state = ap (λ name. 2 ∷ (name ++ (sha256 text ++ state_bytes state))) data_id_same
-
-term_moves : (D E : List Triple) → HaveSame D E → (t : Term) → In (terms_of D) t → In (terms_of E) t
-term_moves D E same t i =
-    let r = from_In-flat_map parts D t (from_In-distinct same_term terms_same term_itself (flat_map parts D) t i) in
-    In-distinct same_term terms_same term_itself (flat_map parts E) t (In-flat_map parts E r.0 t (same.to r.0 r.1) r.2)
-
-same_back : {X : Type 0} {xs ys : List X} → HaveSame xs ys → HaveSame ys xs
-same_back h = record { to = h.from; from = h.to }
-
-pub rank_same : (D E : List Triple) → HaveSame D E → (t : Term) → rank D t ≡ rank E t
-rank_same D E same t =
-    length-filter_same (λ u. is_lt (term_cmp u t)) (terms_of D) (terms_of E)
-    (same_members (terms_of D) (terms_of E) (terms_distinct D) (terms_distinct E) (term_moves D E same) (term_moves E D (same_back same)))
-
-ids_same : (D E : List Triple) → HaveSame D E → (t : Triple) → ids_of D t ≡ ids_of E t
-ids_same D E same t = λ i. record { s = rank_same D E same t.subject i; p = rank_same D E same t.predicate i; o = rank_same D E same t.object i }
+pub plan_bytes_same : (D E : List Triple) → HaveSame D E → (text : List ℕ) (state : State) → plan_bytes D text state ≡ plan_bytes E text state
+plan_bytes_same D E same text state = ap (λ name. 2 ∷ (name ++ (sha256 text ++ state_bytes state))) (data_id_same D E same)
 
 join_same : (D E : List Triple) (p : Pattern) (entry : Option Row) → HaveSame D E → join_entries D p entry ≡ join_entries E p entry
 join_same D E p None same = refl
 join_same D E p (Some row) same = ap (λ ts. None ∷ triple_entries p row ts) (range_same D E p row same)
 
 made_same : (D E : List Triple) (p : Pattern) (entries : Entries) (m : ℕ) → HaveSame D E → made_before D p entries m ≡ made_before E p entries m
-made_same D E p entries m same = ap (λ f. before f entries m) (λ i entry. join_same D E p entry same i)
+made_same D E p entries m same = ap (λ f. pieces_before f entries m) (λ i entry. join_same D E p entry same i)
 
 inner_same : (D E : List Triple) (p : Pattern) (entries : Entries) (m : ℕ) (inner : Inner) (n : ℕ) → HaveSame D E → InnerAt D p entries m inner n → InnerAt E p entries m inner n
 inner_same D E p entries m idle n same at = at ∙ made_same D E p entries m same

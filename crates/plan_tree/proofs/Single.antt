@@ -11,11 +11,12 @@ use Rattle.term_core.specs.Bags.{In}
 use Rattle.term_core.specs.Mappings.{Name, Row, value, same_name, same_term, has_name, restricted}
 use Rattle.term_core.proofs.Bags.{In-append_left, In-append_right}
 use Rattle.term_core.proofs.Merges.{names_same, Some_same, not_some, cond_some, same_row, value-restricted, has_name-from}
-use Rattle.sparql_tree.specs.Bgp.{Position, Known, Named, Pattern, names_at, names_in}
-use Rattle.sparql_tree.specs.Algebra.{Bgp}
+use Rattle.term_core.specs.Patterns.{Position, Known, Named, Pattern, names_at, names_in}
+use Rattle.sparql_tree.specs.Bgp.{solutions}
 use Rattle.sparql_tree.specs.Answer.{IsAnswer}
 use Rattle.sparql_tree.proofs.Assignments.{value-insert}
-use Rattle.plan_tree.specs.Trace.{rows_plan, range, put, bind_at, changed, trace, steps}
+use Rattle.plan_tree.specs.Trace.{rows_plan, put, bind_at, changed, trace, steps}
+use Rattle.term_core.specs.Index.{range}
 use Rattle.plan_tree.specs.Laws.{AreVariables}
 use Rattle.plan_tree.specs.States.{Inner, idle, opened, at_triple, State, done, table_state, join_state, InnerAt, Stands}
 use Rattle.plan_tree.specs.OnePattern.{pattern_plan, matches, solution_of, entry_of, PatternTrace, PatternStates, PatternRows, IsPatternState, is_fresh, is_opened, is_triple, is_closing, HasNamesOf}
@@ -151,6 +152,6 @@ pattern_rows D p names = record {
   whole = λ h. rows_of-pattern D p names ∙ kept_all (solution_of p) (restricted names) (matches D p) (λ t. entry_kept p names t h);
 }
 
-pub selected_answer : (L : List Triple) (p : Pattern) (selected : List Name) → AreVariables selected → IsAnswer L (Bgp (p ∷ [])) selected (map (restricted selected) (filter_map (solution_of p) (matches L p)))
+pub selected_answer : (L : List Triple) (p : Pattern) (selected : List Name) → AreVariables selected → IsAnswer (solutions L (p ∷ [])) selected (map (restricted selected) (filter_map (solution_of p) (matches L p)))
 selected_answer L p selected v =
-    subst (IsAnswer L (Bgp (p ∷ [])) selected) (rows_of-pattern L p selected) (pattern_answers L L p selected (record { to = λ t i. i; from = λ t i. i }) v)
+    subst (IsAnswer (solutions L (p ∷ [])) selected) (rows_of-pattern L p selected) (pattern_answers L L p selected (record { to = λ t i. i; from = λ t i. i }) v)

@@ -14,10 +14,12 @@ use Rattle.term_core.specs.declared.term.Triple.{Triple}
 use Rattle.term_core.specs.declared.pattern.IdTriple.{IdTriple}
 use Rattle.term_core.specs.Order.{term_cmp}
 use Rattle.term_core.proofs.Merges.{Some_same}
-use Rattle.sparql_tree.specs.Bgp.{Pattern, terms_of}
+use Rattle.term_core.specs.Patterns.{Pattern}
+use Rattle.term_core.specs.Data.{terms_of, rank, data_id}
 use Rattle.plan_tree.specs.Trace.{Plan, rows_plan, join_plan, project_plan, Entries, trace}
-use Rattle.plan_tree.specs.States.{rank, Inner, idle, opened, at_triple, State, done, table_state, join_state, InnerAt, Stands}
-use Rattle.plan_tree.specs.Spelling.{data_id, number_bytes, ids_bytes, inner_bytes, state_bytes, plan_bytes, nodes}
+use Rattle.plan_tree.specs.States.{Inner, idle, opened, at_triple, State, done, table_state, join_state, InnerAt, Stands}
+use Rattle.term_core.specs.Ids.{number_bytes, ids_bytes}
+use Rattle.plan_tree.specs.Spelling.{inner_bytes, state_bytes, plan_bytes, nodes}
 use Rattle.plan_tree.specs.StateLaws.{HasFewRows, IsCountable, HasParts, NameAlike}
 use Rattle.plan_tree.specs.Pages.{IsNext}
 use Rattle.plan_tree.proofs.Apart.{other_places}

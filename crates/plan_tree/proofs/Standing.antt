@@ -6,9 +6,11 @@ use Rattle.std.proofs.lemmas.List.{length-map}
 use Rattle.term_core.specs.declared.term.Triple.{Triple}
 use Rattle.term_core.specs.Mappings.{Row, restricted}
 use Rattle.term_core.proofs.Merges.{Some_same}
-use Rattle.sparql_tree.specs.Bgp.{Pattern}
-use Rattle.plan_tree.specs.Trace.{Plan, rows_plan, join_plan, project_plan, range, extended, Entries, join_entries, changed, trace, steps}
-use Rattle.plan_tree.specs.States.{Inner, idle, opened, at_triple, State, done, table_state, join_state, ids_of, made_before, InnerAt, Stands, StandsAt}
+use Rattle.term_core.specs.Patterns.{Pattern}
+use Rattle.plan_tree.specs.Trace.{Plan, rows_plan, join_plan, project_plan, extended, Entries, join_entries, changed, trace, steps}
+use Rattle.term_core.specs.Index.{range}
+use Rattle.plan_tree.specs.States.{Inner, idle, opened, at_triple, State, done, table_state, join_state, made_before, InnerAt, Stands, StandsAt}
+use Rattle.term_core.specs.Data.{ids_of}
 use Rattle.plan_tree.specs.StateLaws.{HasOne}
 use Rattle.plan_tree.proofs.Traces.{traces_end}
 use Rattle.plan_tree.proofs.Pieces.{slice_get-within, slice_get-some, in_piece, lies, same_piece}

@@ -5,10 +5,11 @@ use Rattle.std.specs.List.{filter_map, cons_option}
 use Rattle.std.specs.FinMap as finmap
 use Rattle.term_core.specs.declared.term.Triple.{Triple}
 use Rattle.term_core.specs.Mappings.{Name, Row, restricted}
-use Rattle.sparql_tree.specs.Bgp.{Pattern}
-use Rattle.sparql_tree.specs.Laws.{HaveSame}
-use Rattle.plan_tree.specs.Trace.{Plan, rows_plan, join_plan, project_plan, range, extended, made_of, Entries, triple_entries, join_entries, changed, trace, steps, rows_of}
-use Rattle.plan_tree.proofs.Ranges.{range_same}
+use Rattle.term_core.specs.Patterns.{Pattern}
+use Rattle.term_core.specs.Bags.{HaveSame}
+use Rattle.plan_tree.specs.Trace.{Plan, rows_plan, join_plan, project_plan, extended, made_of, Entries, triple_entries, join_entries, changed, trace, steps, rows_of}
+use Rattle.term_core.specs.Index.{range}
+use Rattle.term_core.proofs.Ranges.{range_same}
 
 -- the rows of two lists of entries, of a table, of triples, of a join and of changed entries
 pub rows_of-append : (es fs : Entries) → rows_of (es ++ fs) ≡ rows_of es ++ rows_of fs

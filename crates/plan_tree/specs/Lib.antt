@@ -1,4 +1,3 @@
-pub mod Index
 pub mod Trace
 pub mod Plans
 pub mod Laws

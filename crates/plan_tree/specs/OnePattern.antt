@@ -5,12 +5,14 @@ use Rattle.std.specs.List.{filter_map}
 use Rattle.term_core.specs.declared.term.Triple.{Triple}
 use Rattle.term_core.specs.Bags.{In}
 use Rattle.term_core.specs.Mappings.{Name, Row, restricted}
-use Rattle.sparql_tree.specs.Bgp.{Pattern, names_in}
-use Rattle.sparql_tree.specs.Algebra.{Bgp}
+use Rattle.term_core.specs.Patterns.{Pattern, names_in}
+use Rattle.sparql_tree.specs.Bgp.{solutions}
 use Rattle.sparql_tree.specs.Answer.{IsAnswer}
-use Rattle.plan_tree.specs.Trace.{Plan, rows_plan, join_plan, project_plan, range, extended, changed, trace, steps, rows_of}
+use Rattle.plan_tree.specs.Trace.{Plan, rows_plan, join_plan, project_plan, extended, changed, trace, steps, rows_of}
+use Rattle.term_core.specs.Index.{range}
 use Rattle.plan_tree.specs.Laws.{AreVariables}
-use Rattle.plan_tree.specs.States.{idle, opened, at_triple, State, table_state, join_state, ids_of, Stands}
+use Rattle.plan_tree.specs.States.{idle, opened, at_triple, State, table_state, join_state, Stands}
+use Rattle.term_core.specs.Data.{ids_of}
 
 -- the pattern joined to the table of one empty row, restricted to names
 abbrev pub pattern_plan : Pattern → List Name → Plan
@@ -95,4 +97,4 @@ RowsAreSolutions = (D : List Triple) (p : Pattern) (names : List Name) → Patte
 -- the triples' solutions, restricted to the variables that are selected, answer the query (SPARQL 1.1, 18.5)
 abbrev pub SelectedRowsAnswer : Type 0
 SelectedRowsAnswer = (L : List Triple) (p : Pattern) (selected : List Name) → AreVariables selected →
-    IsAnswer L (Bgp (p ∷ [])) selected (map (restricted selected) (filter_map (solution_of p) (matches L p)))
+    IsAnswer (solutions L (p ∷ [])) selected (map (restricted selected) (filter_map (solution_of p) (matches L p)))

@@ -57,6 +57,6 @@ next_length None = 0
 next_length (Some bytes) = length bytes
 
 -- the greatest length of a suspended plan, 0 where there is none
-abbrev pub longest_in : List Page → ℕ
-longest_in [] = 0
-longest_in (page ∷ pages) = max (next_length page.next) (longest_in pages)
+abbrev pub longest_plan_in : List Page → ℕ
+longest_plan_in [] = 0
+longest_plan_in (page ∷ pages) = max (next_length page.next) (longest_plan_in pages)

@@ -1,25 +1,11 @@
 -- The bytes of a suspended plan.
-use Rattle.std.specs.Prelude.{ℕ, ◌+◌, List, [], ◌∷◌, ◌++◌, flat_map}
-use Rattle.std.specs.Int.{w32, to_be_bytes}
+use Rattle.std.specs.Prelude.{ℕ, ◌+◌, List, [], ◌∷◌, ◌++◌}
 use Rattle.sha2.specs.Sha256.{sha256}
 use Rattle.term_core.specs.declared.term.Triple.{Triple}
-use Rattle.term_core.specs.declared.pattern.IdTriple.{IdTriple}
-use Rattle.term_core.specs.Texts.{triple_text}
-use Rattle.plan_tree.specs.Index.{by_subject, triple_cmp, in_order}
+use Rattle.term_core.specs.Data.{data_id}
+use Rattle.term_core.specs.Ids.{number_bytes, ids_bytes}
 use Rattle.plan_tree.specs.Trace.{Plan, rows_plan, join_plan, project_plan}
 use Rattle.plan_tree.specs.States.{Inner, idle, opened, at_triple, State, done, table_state, join_state}
-
--- The name of the data: SHA-256 (FIPS 180-4) of the lines of its triples, ordered by subject, predicate and object.
-abbrev pub data_id : List Triple → List ℕ
-data_id D = sha256 (flat_map triple_text (in_order (triple_cmp by_subject) D))
-
--- a number in four bytes, the highest first
-abbrev pub number_bytes : ℕ → List ℕ
-number_bytes n = to_be_bytes w32 n
-
--- the three numbers, subject first
-abbrev pub ids_bytes : IdTriple → List ℕ
-ids_bytes ids = number_bytes ids.s ++ (number_bytes ids.p ++ number_bytes ids.o)
 
 -- a join's last part: 0, or 1, or 2 and the triple
 abbrev pub inner_bytes : Inner → List ℕ

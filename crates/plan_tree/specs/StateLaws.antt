@@ -1,24 +1,21 @@
 -- What is proved of states, of their bytes and of pages.
 use Rattle.std.specs.Prelude.{◌≡◌, ℕ, ◌+◌, ◌*◌, ◌^◌, ◌≤◌, ◌<◌, List, length, slice_index_or, take, drop, slice_get, Option, Some}
-use Rattle.std.specs.List.Sorted.{IsStrictlySortedBy}
 use Rattle.sha2.specs.Sha256.{sha256}
 use Rattle.term_core.specs.declared.term.Term.{Term}
 use Rattle.term_core.specs.declared.term.Triple.{Triple}
-use Rattle.term_core.specs.Bags.{In}
-use Rattle.term_core.specs.Order.{term_cmp}
-use Rattle.sparql_tree.specs.Bgp.{terms_of}
-use Rattle.sparql_tree.specs.Laws.{HaveSame}
+use Rattle.term_core.specs.Bags.{HaveSame}
+use Rattle.term_core.specs.Data.{terms_of, rank, data_id}
 use Rattle.plan_tree.specs.Trace.{Plan, rows_plan, join_plan, project_plan, trace, steps, rows_of}
-use Rattle.plan_tree.specs.States.{rank, ids_of, State, Stands, StandsAt}
-use Rattle.plan_tree.specs.Spelling.{data_id, state_bytes, plan_bytes, nodes}
-use Rattle.plan_tree.specs.Pages.{Page, IsNext, page_end, IsPage, IsRun, AreQuanta, walked, rows_in, steps_in, longest_in}
+use Rattle.plan_tree.specs.States.{State, Stands, StandsAt}
+use Rattle.plan_tree.specs.Spelling.{state_bytes, plan_bytes, nodes}
+use Rattle.plan_tree.specs.Pages.{Page, IsNext, page_end, IsPage, IsRun, AreQuanta, walked, rows_in, steps_in, longest_plan_in}
 
 -- pages that, one after the other, have the rows and the steps of the whole plan; each suspended plan among them is short
 pub record AreWhole (D : List Triple) (plan : Plan) (pages : List Page) : Type 0 where
   pub rows : rows_in pages ≡ rows_of (trace D plan)
   pub count : length pages ≤ steps D plan
   pub steps_all : steps_in pages ≡ steps D plan
-  pub short : longest_in pages ≤ 65 + 14 * nodes plan
+  pub short : longest_plan_in pages ≤ 65 + 14 * nodes plan
 
 -- pages of at least one step, followed to the end, are the whole
 abbrev pub PagesJoin : Type 0
@@ -75,24 +72,6 @@ StatesAreBelow = (D : List Triple) (plan : Plan) (state : State) (n : ℕ) → S
 -- no state stands at two places
 abbrev pub OtherPlaces : Type 0
 OtherPlaces = (D : List Triple) (plan : Plan) (state : State) (m n : ℕ) → StandsAt D plan state m → StandsAt D plan state n → m ≡ n
-
--- the rank of a term is its place in the list, and at its rank stands the term
-pub record PlacesAreRanks (D : List Triple) (ts : List Term) : Type 0 where
-  pub to : (k : ℕ) (t : Term) → slice_get ts k ≡ Some t → rank D t ≡ k
-  pub from : (t : Term) → In (terms_of D) t → slice_get ts (rank D t) ≡ Some t
-
--- so it is in the sorted list of the data's terms
-abbrev pub RanksArePlaces : Type 0
-RanksArePlaces = (D : List Triple) (ts : List Term) → IsStrictlySortedBy term_cmp ts → HaveSame ts (terms_of D) → PlacesAreRanks D ts
-
--- two terms of the data have two ranks, and two triples of the data have other numbers
-pub record RanksAreExact (D : List Triple) : Type 0 where
-  pub terms : (s t : Term) → In (terms_of D) s → In (terms_of D) t → rank D s ≡ rank D t → s ≡ t
-  pub triples : (s t : Triple) → In D s → In D t → ids_of D s ≡ ids_of D t → s ≡ t
-
--- whatever the data
-abbrev pub RanksExact : Type 0
-RanksExact = (D : List Triple) → RanksAreExact D
 
 -- a suspended plan has at most 65 bytes, and 14 more for each part of the plan
 abbrev pub Bounded : Type 0

@@ -1,21 +1,12 @@
 -- States of plans, and where in the trace each stands. A state speaks of places and triples, never of rows given before.
-use Rattle.std.specs.Prelude.{◌≡◌, ℕ, zero, suc, ◌+◌, ◌≤◌, ◌⊎◌, List, [], ◌∷◌, length, filter, slice_get, Some}
-use Rattle.std.specs.Ordering.{is_lt}
-use Rattle.term_core.specs.declared.term.Term.{Term}
+use Rattle.std.specs.Prelude.{◌≡◌, ℕ, zero, suc, ◌+◌, ◌≤◌, ◌⊎◌, List, [], ◌∷◌, length, slice_get, Some}
 use Rattle.term_core.specs.declared.term.Triple.{Triple}
 use Rattle.term_core.specs.declared.pattern.IdTriple.{IdTriple}
-use Rattle.term_core.specs.Order.{term_cmp}
 use Rattle.term_core.specs.Mappings.{Row}
-use Rattle.sparql_tree.specs.Bgp.{Pattern, terms_of}
-use Rattle.plan_tree.specs.Trace.{Plan, rows_plan, join_plan, project_plan, range, Entries, join_entries, trace, steps}
-
--- a term's rank: how many terms of the data stand below it
-abbrev pub rank : List Triple → Term → ℕ
-rank D t = length (filter (λ u. is_lt (term_cmp u t)) (terms_of D))
-
--- a triple by the ranks of its terms
-abbrev pub ids_of : List Triple → Triple → IdTriple
-ids_of D t = record { s = rank D t.subject; p = rank D t.predicate; o = rank D t.object }
+use Rattle.term_core.specs.Patterns.{Pattern}
+use Rattle.term_core.specs.Data.{ids_of}
+use Rattle.plan_tree.specs.Trace.{Plan, rows_plan, join_plan, project_plan, Entries, join_entries, trace, steps}
+use Rattle.term_core.specs.Index.{range}
 
 -- A join's last part: it has no row of its left side, or has one and has given no triple of it yet, or has given triples up to this one.
 pub data Inner : Type 0 where
@@ -30,14 +21,14 @@ pub data State : Type 0 where
   join_state : (left : State) (inner : Inner) → State
 
 -- how many values the pieces of the first m elements have
-abbrev pub before : {X Y : Type 0} → (X → List Y) → List X → ℕ → ℕ
-before f xs zero = 0
-before f [] (suc m) = 0
-before f (x ∷ xs) (suc m) = length (f x) + before f xs m
+abbrev pub pieces_before : {X Y : Type 0} → (X → List Y) → List X → ℕ → ℕ
+pieces_before f xs zero = 0
+pieces_before f [] (suc m) = 0
+pieces_before f (x ∷ xs) (suc m) = length (f x) + pieces_before f xs m
 
 -- how many entries a join makes of the first m entries of its left side
 abbrev pub made_before : List Triple → Pattern → Entries → ℕ → ℕ
-made_before D p entries m = before (join_entries D p) entries m
+made_before D p entries m = pieces_before (join_entries D p) entries m
 
 -- where a join stands, when its left side stands at m and its last part so
 abbrev pub InnerAt : List Triple → Pattern → Entries → ℕ → Inner → ℕ → Type 0

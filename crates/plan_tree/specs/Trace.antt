@@ -1,31 +1,18 @@
 -- Plans, and what the engine gives for each, step by step.
-use Rattle.std.specs.Prelude.{ℕ, List, [], ◌∷◌, ◌++◌, length, map, flat_map, Option, Some, None, Bool, true, cond, ◌&&◌, filter}
+use Rattle.std.specs.Prelude.{ℕ, List, [], ◌∷◌, ◌++◌, length, map, flat_map, Option, Some, None, cond}
 use Rattle.std.specs.List.{filter_map}
 use Rattle.std.specs.FinMap as finmap
 use Rattle.term_core.specs.declared.term.Term.{Term}
 use Rattle.term_core.specs.declared.term.Triple.{Triple}
 use Rattle.term_core.specs.Mappings.{Name, Row, value, same_term, restricted}
-use Rattle.sparql_tree.specs.Bgp.{Position, Known, Named, Pattern, filled}
-use Rattle.plan_tree.specs.Index.{index_cmp, in_order}
+use Rattle.term_core.specs.Patterns.{Position, Known, Named, Pattern}
+use Rattle.term_core.specs.Index.{range}
 
 -- a plan: a table of rows, the join of a plan's rows with a pattern, or the restriction of a plan's rows to names
 pub data Plan : Type 0 where
   rows_plan : (rows : List Row) → Plan
   join_plan : (left : Plan) (p : Pattern) → Plan
   project_plan : (inner : Plan) (names : List Name) → Plan
-
--- whether a term may stand at a position: it is free, or has this term
-abbrev pub fits : Option Term → Term → Bool
-fits None term = true
-fits (Some other) term = same_term other term
-
--- whether a triple agrees with a pattern's terms and with a row's values, each position by itself
-abbrev pub agrees : Pattern → Row → Triple → Bool
-agrees p row t = fits (filled row p.subject) t.subject && (fits (filled row p.predicate) t.predicate && fits (filled row p.object) t.object)
-
--- the triples of the data that agree, in the order of the pattern's index
-abbrev pub range : List Triple → Pattern → Row → List Triple
-range D p row = filter (agrees p row) (in_order (index_cmp p row) D)
 
 -- a row with a name bound to a term, or nothing where the name has another value
 abbrev pub put : Row → Name → Term → Option Term → Option Row

@@ -1,19 +1,5 @@
 //! Laws of plans. Each function does nothing when it runs: its contract is the law.
-ghost use Rattle.plan_tree.specs.Laws.{ListingsAre, RangesAre, RangesAreStretches, EntriesExtend, TracesEnd, SomeSteps, RowsOfPattern, TracesOfSets, BagIsKept, RowsAnswer, PatternAnswers};
-
-/// A list of triples is the listing of the data by an index exactly where it stands in the index's
-/// order, each triple once, and has the triples of the data.
-pub fn listing_is()
-    ensures listing { ListingsAre }
-{}
-
-/// A list of triples is the range of a pattern under a row exactly where it stands in the order of
-/// the pattern's index, each triple once, and has the triples of the data that agree. In that index
-/// they stand side by side, so two binary searches by `side` find where they begin and end.
-pub fn range_is()
-    ensures range { RangesAre }
-    ensures stretch { RangesAreStretches }
-{}
+ghost use Rattle.plan_tree.specs.Laws.{EntriesExtend, TracesEnd, SomeSteps, RowsOfPattern, TracesOfSets, BagIsKept, RowsAnswer, PatternAnswers};
 
 /// The entry of a triple has the row's values and those under which the pattern becomes the triple,
 /// and nothing else; it has no row exactly where one name would get two values.

@@ -5,10 +5,9 @@ mod law;
 mod states;
 
 pub use law::{
-    bag_is_kept, entries_extend, listing_is, range_is, rows_are_the_answer, rows_of_pattern,
-    traces_end, traces_of_sets,
+    bag_is_kept, entries_extend, rows_are_the_answer, rows_of_pattern, traces_end, traces_of_sets,
 };
 pub use states::{
     bytes_of_states, one_run, one_state, pages_join, pages_take_steps, pattern_rows,
-    pattern_states, quanta_go_round, ranks_are_places, states_of_sets,
+    pattern_states, quanta_go_round, states_of_sets,
 };

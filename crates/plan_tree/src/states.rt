@@ -1,6 +1,6 @@
 //! Laws of states, of their bytes and of pages. Each function does nothing when it runs: its contract is the law.
 ghost use Rattle.plan_tree.specs.OnePattern.{PatternTraces, PatternStatesStand, NoOtherStates, EntriesAreKept, RowsAreSolutions, SelectedRowsAnswer};
-ghost use Rattle.plan_tree.specs.StateLaws.{PagesJoin, OneRun, OnePage, PagesTakeSteps, OneState, OneStateAt, StatesAreBelow, OtherPlaces, QuantaGoRound, RanksArePlaces, RanksExact, Bounded, OneSpelling, NextsArePlaced, PartsAreFixed, NamesAreTold, StatesOfSets};
+ghost use Rattle.plan_tree.specs.StateLaws.{PagesJoin, OneRun, OnePage, PagesTakeSteps, OneState, OneStateAt, StatesAreBelow, OtherPlaces, QuantaGoRound, Bounded, OneSpelling, NextsArePlaced, PartsAreFixed, NamesAreTold, StatesOfSets};
 
 /// The pages of a plan, followed from the first to the one after which nothing is left, have the rows
 /// of the whole trace in their order, and as many steps, whatever the quanta: no row is lost or
@@ -35,13 +35,6 @@ pub fn one_state()
     ensures whole { OneStateAt }
     ensures below { StatesAreBelow }
     ensures apart { OtherPlaces }
-{}
-
-/// The numbers that stand for terms are their places in the sorted list of the data's terms, so that
-/// terms and triples of the data are told apart by them.
-pub fn ranks_are_places()
-    ensures places { RanksArePlaces }
-    ensures exact { RanksExact }
 {}
 
 /// The bytes of a suspended plan: how many there may be, what stands where, that bytes tell the data

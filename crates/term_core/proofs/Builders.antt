@@ -19,16 +19,16 @@ use Rattle.std.proofs.lemmas.Slice.Eq.{bytes_eq-Decides}
 use Rattle.term_core.specs.declared.term.Term.{Term}
 use Rattle.term_core.specs.Order.{bytes_cmp}
 use Rattle.term_core.specs.OrderLaws.{same_bytes}
-use Rattle.term_core.specs.Rows.{AreSorted, entry_of, row_of}
+use Rattle.term_core.specs.Rows.{AreSorted, named_term, row_of}
 
 -- an entry of a tree is found by its name's bytes
-find_of : (es : List (String Global × Term)) (name : List ℕ) → finmap.find bytes_cmp name (map entry_of es) ≡ lookup (is_at (λ k. slice_cmp nat_cmp name (string_bytes k))) es
+find_of : (es : List (String Global × Term)) (name : List ℕ) → finmap.find bytes_cmp name (map named_term es) ≡ lookup (is_at (λ k. slice_cmp nat_cmp name (string_bytes k))) es
 find_of [] name = refl
 find_of (e ∷ es) name = ap (cond (eq_by_cmp bytes_cmp name (string_bytes e.0)) (Some e.1)) (find_of es name)
 
 -- what the row of a tree has under a name
 get_row_of : (m : BTreeMap (String Global) Term) (name : List ℕ) → finmap.get (row_of m) name ≡ get_by_text m name
-get_row_of m name = finmap.get-from_entries nat_list_cmp_total (map entry_of m.entries) name ∙ find_of m.entries name
+get_row_of m name = finmap.get-from_entries nat_list_cmp_total (map named_term m.entries) name ∙ find_of m.entries name
 
 same_tests : (a b : Bool) → (a ≡ true → b ≡ true) → (b ≡ true → a ≡ true) → a ≡ b
 same_tests true true h k = refl
@@ -57,16 +57,16 @@ both true b h k = k
 both false b h k = h
 
 -- the names of a tree stand in order
-below : (k : String Global) (es : List (String Global × Term)) → AllByRecursion (λ y. string_cmp k y ≡ Less) (map (λ e. e.0) es) → T (below_all bytes_cmp (string_bytes k) (map entry_of es))
+below : (k : String Global) (es : List (String Global × Term)) → AllByRecursion (λ y. string_cmp k y ≡ Less) (map (λ e. e.0) es) → T (below_all bytes_cmp (string_bytes k) (map named_term es))
 below k [] h = tt
 below k (e ∷ es) h = both _ _ (subst (λ r. T (is_lt r)) (sym h.0) tt) (below k es h.1)
 
-pub in_order : (es : List (String Global × Term)) → IsStrictlySortedBy string_cmp (map (λ e. e.0) es) → AreSorted (map entry_of es)
+pub in_order : (es : List (String Global × Term)) → IsStrictlySortedBy string_cmp (map (λ e. e.0) es) → AreSorted (map named_term es)
 unfolding IsStrictlySortedBy
 in_order [] h = tt
 in_order (e ∷ es) h = both _ _ (below e.0 es h.0) (in_order es h.1)
 
 -- entries in order make the same row as in a tree
-pub row_of_order : (m : BTreeMap (String Global) Term) → AreSorted (map entry_of m.entries) → finmap.from_sorted (map entry_of m.entries) ≡ row_of m
+pub row_of_order : (m : BTreeMap (String Global) Term) → AreSorted (map named_term m.entries) → finmap.from_sorted (map named_term m.entries) ≡ row_of m
 row_of_order m h =
-    finmap.same_map nat_list_cmp_total same_bytes _ _ (λ q. finmap.get-from_sorted bytes_cmp (map entry_of m.entries) q h ∙ sym (finmap.get-from_entries nat_list_cmp_total (map entry_of m.entries) q))
+    finmap.same_map nat_list_cmp_total same_bytes _ _ (λ q. finmap.get-from_sorted bytes_cmp (map named_term m.entries) q h ∙ sym (finmap.get-from_entries nat_list_cmp_total (map named_term m.entries) q))

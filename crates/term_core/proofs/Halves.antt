@@ -8,7 +8,7 @@ use Rattle.std.proofs.lemmas.Cmp.{nat_list_cmp_total}
 use Rattle.term_core.specs.declared.term.Term.{Term}
 use Rattle.term_core.specs.Mappings.{Name}
 use Rattle.term_core.specs.Order.{bytes_cmp}
-use Rattle.term_core.specs.Rows.{Entries, AreSorted}
+use Rattle.term_core.specs.Rows.{RowEntries, AreSorted}
 use Rattle.term_core.proofs.Entries.{left_part, right_part}
 
 is_less : (o : Ordering) → T (is_lt o) → o ≡ Less
@@ -24,33 +24,33 @@ both_parts false b h k = absurd h
 turned : (a b : Name) (o : Ordering) → bytes_cmp a b ≡ o → bytes_cmp b a ≡ ordering_reverse o
 turned a b o e = nat_list_cmp_total.antisymm b a ∙ ap ordering_reverse e
 
-below_front : (x : Name) (es fs : Entries) → T (below_all bytes_cmp x (es ++ fs)) → T (below_all bytes_cmp x es)
+below_front : (x : Name) (es fs : RowEntries) → T (below_all bytes_cmp x (es ++ fs)) → T (below_all bytes_cmp x es)
 below_front x [] fs h = tt
 below_front x (e ∷ es) fs h = both_parts _ _ (left_part _ _ h) (below_front x es fs (right_part (is_lt (bytes_cmp x e.0)) _ h))
 
 -- a part of sorted entries is sorted
-pub sorted_front : (es fs : Entries) → AreSorted (es ++ fs) → AreSorted es
+pub sorted_front : (es fs : RowEntries) → AreSorted (es ++ fs) → AreSorted es
 sorted_front [] fs h = tt
 sorted_front (e ∷ es) fs h = both_parts _ _ (below_front e.0 es fs (left_part _ _ h)) (sorted_front es fs (right_part (below_all bytes_cmp e.0 (es ++ fs)) _ h))
 
-pub sorted_back : (es fs : Entries) → AreSorted (es ++ fs) → AreSorted fs
+pub sorted_back : (es fs : RowEntries) → AreSorted (es ++ fs) → AreSorted fs
 sorted_back [] fs h = h
 sorted_back (e ∷ es) fs h = sorted_back es fs (right_part (below_all bytes_cmp e.0 (es ++ fs)) _ h)
 
 -- a name below all names of some entries is not found in them
-none_below : (q x : Name) (es : Entries) → bytes_cmp q x ≡ Less → T (below_all bytes_cmp x es) → find bytes_cmp q es ≡ None
+none_below : (q x : Name) (es : RowEntries) → bytes_cmp q x ≡ Less → T (below_all bytes_cmp x es) → find bytes_cmp q es ≡ None
 none_below q x [] p h = refl
 none_below q x (e ∷ es) p h =
     ap (λ o. cond (is_eq o) (Some e.1) (find bytes_cmp q es)) (nat_list_cmp_total.trans q x e.0 p (is_less _ (left_part _ _ h)))
     ∙ none_below q x es p (right_part (is_lt (bytes_cmp x e.0)) _ h)
 
 -- a name below all names of some entries is below that of each
-below_one : (x : Name) (es fs : Entries) (e : Name × Term) → T (below_all bytes_cmp x (es ++ e ∷ fs)) → bytes_cmp x e.0 ≡ Less
+below_one : (x : Name) (es fs : RowEntries) (e : Name × Term) → T (below_all bytes_cmp x (es ++ e ∷ fs)) → bytes_cmp x e.0 ≡ Less
 below_one x [] fs e h = is_less _ (left_part _ _ h)
 below_one x (f ∷ es) fs e h = below_one x es fs e (right_part (is_lt (bytes_cmp x f.0)) _ h)
 
 -- below an entry's name is in front of it
-pub found_front : (q : Name) (es fs : Entries) (e : Name × Term) → AreSorted (es ++ e ∷ fs) → bytes_cmp q e.0 ≡ Less
+pub found_front : (q : Name) (es fs : RowEntries) (e : Name × Term) → AreSorted (es ++ e ∷ fs) → bytes_cmp q e.0 ≡ Less
     → find bytes_cmp q (es ++ e ∷ fs) ≡ find bytes_cmp q es
 found_front q [] fs e h p =
     ap (λ o. cond (is_eq o) (Some e.1) (find bytes_cmp q fs)) p ∙ none_below q e.0 fs p (left_part _ _ h)
@@ -58,7 +58,7 @@ found_front q (x ∷ es) fs e h p =
     ap (cond (eq_by_cmp bytes_cmp q x.0) (Some x.1)) (found_front q es fs e (right_part (below_all bytes_cmp x.0 (es ++ e ∷ fs)) _ h) p)
 
 -- the name of an entry is found there
-pub found_here : (q : Name) (es fs : Entries) (e : Name × Term) → AreSorted (es ++ e ∷ fs) → bytes_cmp q e.0 ≡ Equal
+pub found_here : (q : Name) (es fs : RowEntries) (e : Name × Term) → AreSorted (es ++ e ∷ fs) → bytes_cmp q e.0 ≡ Equal
     → find bytes_cmp q (es ++ e ∷ fs) ≡ Some e.1
 found_here q [] fs e h p = ap (λ o. cond (is_eq o) (Some e.1) (find bytes_cmp q fs)) p
 found_here q (x ∷ es) fs e h p =
@@ -66,7 +66,7 @@ found_here q (x ∷ es) fs e h p =
     ∙ found_here q es fs e (right_part (below_all bytes_cmp x.0 (es ++ e ∷ fs)) _ h) p
 
 -- above an entry's name is behind it
-pub found_back : (q : Name) (es fs : Entries) (e : Name × Term) → AreSorted (es ++ e ∷ fs) → bytes_cmp q e.0 ≡ Greater
+pub found_back : (q : Name) (es fs : RowEntries) (e : Name × Term) → AreSorted (es ++ e ∷ fs) → bytes_cmp q e.0 ≡ Greater
     → find bytes_cmp q (es ++ e ∷ fs) ≡ find bytes_cmp q fs
 found_back q [] fs e h p = ap (λ o. cond (is_eq o) (Some e.1) (find bytes_cmp q fs)) p
 found_back q (x ∷ es) fs e h p =

@@ -9,3 +9,8 @@ pub mod Permuted
 mod Builders
 mod Halves
 pub mod IdOrder
+pub mod Orders
+pub mod Ranges
+pub mod Stretches
+pub mod Ranked
+pub mod Sets

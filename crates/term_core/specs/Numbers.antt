@@ -1,14 +1,12 @@
 -- Exact numbers: the integers and decimals of XML Schema (XSD 1.1 part 2, sections 3.3.3 and 3.4.13 to 3.4.25) and
 -- the arithmetic on them (SPARQL 1.1, section 17.3). A number is exact, or an operation names why there is none.
-use Rattle.std.specs.Prelude.{◌≡◌, ◌⊎◌, ℕ, zero, suc, ◌+◌, ◌-◌, ◌*◌, ◌/◌, ◌%◌, ◌^◌, max, ℤ, pos, negsuc, neg_ℤ}
-use Rattle.std.specs.Prelude.{◌+ℤ◌, ◌-ℤ◌, ◌*ℤ◌, unsigned_abs, int_le, Bool, true, false, cond, not, ◌&&◌, ◌||◌, ◌==◌}
-use Rattle.std.specs.Prelude.{nat_lt, nat_le, if◌then◌else◌, List, [], ◌∷◌, ◌++◌, length, codes}
-use Rattle.std.specs.Prelude.{Option, Some, None, Result, Ok, Err, ok_or}
+use Rattle.std.specs.Prelude.{◌≡◌, ◌⊎◌, ℕ, zero, suc, ◌+◌, ◌-◌, ◌*◌, ◌/◌, ◌%◌, ◌^◌, max, ℤ, pos, negsuc, neg_ℤ, ◌+ℤ◌, ◌-ℤ◌, ◌*ℤ◌, unsigned_abs, int_le, Bool, true, false, cond, not, ◌&&◌, ◌||◌, ◌==◌, nat_lt, nat_le, if◌then◌else◌, List, [], ◌∷◌, ◌++◌, length, codes, Option, Some, None, Result, Ok, Err, ok_or}
 use Rattle.std.specs.Int.{is_negative}
 use Rattle.std.specs.Ordering.{int_cmp}
 use Rattle.std.specs.declared.cmp.Ordering.{Ordering}
 use Rattle.std.specs.Str.{bytes_eq}
 use Rattle.std.specs.Fmt.{signed_decimal, decimal}
+use Rattle.term_core.specs.Characters.{is_digit}
 
 -- m, a value of xsd:integer or a type derived from it (XSD 3.4.13); or m * 10^-s, a value of xsd:decimal (XSD 3.3.3)
 pub data Number : Type 0 where
@@ -138,10 +136,6 @@ compared a b = int_cmp (at_scale 18 a) (at_scale 18 b)
 
 -- ---- lexical forms (XSD 3.3.3.1 and 3.4.13.1)
 
--- [0-9]
-abbrev pub is_digit : ℕ → Bool
-is_digit c = nat_le 48 c && nat_le c 57
-
 -- [0-9]*
 abbrev pub are_digits : List ℕ → Bool
 are_digits [] = true
@@ -158,8 +152,8 @@ value_after n [] = n
 value_after n (c ∷ cs) = value_after (n * 10 + (c - 48)) cs
 
 -- the number that digits write
-abbrev pub value : List ℕ → ℕ
-value digits = value_after 0 digits
+abbrev pub digits_value : List ℕ → ℕ
+digits_value digits = value_after 0 digits
 
 -- a minus stands in front
 abbrev pub is_minus : List ℕ → Bool
@@ -187,7 +181,7 @@ is_integer text = are_digits (behind_sign text) && not (is_empty (behind_sign te
 
 -- the integer that such a text writes
 abbrev pub integer_value : List ℕ → ℤ
-integer_value text = signed (is_minus text) (value (behind_sign text))
+integer_value text = signed (is_minus text) (digits_value (behind_sign text))
 
 -- the digits in front of the point and behind it
 abbrev pub all_digits : List ℕ → List ℕ
@@ -200,7 +194,7 @@ is_decimal text = are_digits (all_digits (behind_sign text)) && not (is_empty (a
 -- the decimal that such a text writes, at its least scale
 abbrev pub decimal_value : List ℕ → Option Number
 decimal_value text =
-    least_decimal (is_minus text) (value (all_digits (behind_sign text))) (length (behind_point (behind_sign text)))
+    least_decimal (is_minus text) (digits_value (all_digits (behind_sign text))) (length (behind_point (behind_sign text)))
 
 -- ---- the grammar of lexical forms
 
@@ -209,7 +203,7 @@ abbrev pub IsSign : List ℕ → Type 0
 IsSign sign = (sign ≡ []) ⊎ ((sign ≡ 43 ∷ []) ⊎ (sign ≡ 45 ∷ []))
 
 -- [+-]?[0-9]+ (XSD 3.4.13.1)
-pub record IsInteger (text : List ℕ) : Type 0 where
+pub record IsIntegerForm (text : List ℕ) : Type 0 where
   pub sign : List ℕ
   pub digits : List ℕ
   pub is_sign : IsSign sign
@@ -218,11 +212,11 @@ pub record IsInteger (text : List ℕ) : Type 0 where
   pub parts : text ≡ sign ++ digits
 
 -- a point, or nothing and then no digit behind it
-abbrev pub IsPointed : List ℕ → List ℕ → Type 0
-IsPointed point fraction = ((point ≡ []) × (fraction ≡ [])) ⊎ (point ≡ 46 ∷ [])
+abbrev pub IsPointedForm : List ℕ → List ℕ → Type 0
+IsPointedForm point fraction = ((point ≡ []) × (fraction ≡ [])) ⊎ (point ≡ 46 ∷ [])
 
 -- [+-]?([0-9]+(\.[0-9]*)?|\.[0-9]+) (XSD 3.3.3.1): digits, a point or none, digits, and one digit at least
-pub record IsDecimal (text : List ℕ) : Type 0 where
+pub record IsDecimalForm (text : List ℕ) : Type 0 where
   pub sign : List ℕ
   pub whole : List ℕ
   pub point : List ℕ
@@ -230,7 +224,7 @@ pub record IsDecimal (text : List ℕ) : Type 0 where
   pub is_sign : IsSign sign
   pub whole_digits : are_digits whole ≡ true
   pub fraction_digits : are_digits fraction ≡ true
-  pub is_pointed : IsPointed point fraction
+  pub is_pointed : IsPointedForm point fraction
   pub some : is_empty (whole ++ fraction) ≡ false
   pub parts : text ≡ sign ++ (whole ++ (point ++ fraction))
 
@@ -253,8 +247,8 @@ abbrev pub Bounds : Type 0
 Bounds = Option ℤ × Option ℤ
 
 -- from m to n
-abbrev pub between : ℤ → ℤ → Option Bounds
-between m n = Some (Some m, Some n)
+abbrev pub bounds_between : ℤ → ℤ → Option Bounds
+bounds_between m n = Some (Some m, Some n)
 
 -- the range of xsd:integer and of each of the twelve types derived from it (XSD 3.4.13 to 3.4.25)
 unfoldable pub bounds_of : List ℕ → Option Bounds
@@ -262,13 +256,13 @@ bounds_of datatype =
     if is_type xsd_integer datatype then
     Some (None, None)
     else if is_type (codes "http://www.w3.org/2001/XMLSchema#long") datatype then
-    between (negsuc (2 ^ 63 - 1)) (pos (2 ^ 63 - 1))
+    bounds_between (negsuc (2 ^ 63 - 1)) (pos (2 ^ 63 - 1))
     else if is_type (codes "http://www.w3.org/2001/XMLSchema#int") datatype then
-    between (negsuc (2 ^ 31 - 1)) (pos (2 ^ 31 - 1))
+    bounds_between (negsuc (2 ^ 31 - 1)) (pos (2 ^ 31 - 1))
     else if is_type (codes "http://www.w3.org/2001/XMLSchema#short") datatype then
-    between (negsuc (2 ^ 15 - 1)) (pos (2 ^ 15 - 1))
+    bounds_between (negsuc (2 ^ 15 - 1)) (pos (2 ^ 15 - 1))
     else if is_type (codes "http://www.w3.org/2001/XMLSchema#byte") datatype then
-    between (negsuc (2 ^ 7 - 1)) (pos (2 ^ 7 - 1))
+    bounds_between (negsuc (2 ^ 7 - 1)) (pos (2 ^ 7 - 1))
     else if is_type (codes "http://www.w3.org/2001/XMLSchema#nonNegativeInteger") datatype then
     Some (Some (pos 0), None)
     else if is_type (codes "http://www.w3.org/2001/XMLSchema#positiveInteger") datatype then
@@ -278,13 +272,13 @@ bounds_of datatype =
     else if is_type (codes "http://www.w3.org/2001/XMLSchema#negativeInteger") datatype then
     Some (None, Some (negsuc 0))
     else if is_type (codes "http://www.w3.org/2001/XMLSchema#unsignedLong") datatype then
-    between (pos 0) (pos (2 ^ 64 - 1))
+    bounds_between (pos 0) (pos (2 ^ 64 - 1))
     else if is_type (codes "http://www.w3.org/2001/XMLSchema#unsignedInt") datatype then
-    between (pos 0) (pos (2 ^ 32 - 1))
+    bounds_between (pos 0) (pos (2 ^ 32 - 1))
     else if is_type (codes "http://www.w3.org/2001/XMLSchema#unsignedShort") datatype then
-    between (pos 0) (pos (2 ^ 16 - 1))
+    bounds_between (pos 0) (pos (2 ^ 16 - 1))
     else if is_type (codes "http://www.w3.org/2001/XMLSchema#unsignedByte") datatype then
-    between (pos 0) (pos (2 ^ 8 - 1))
+    bounds_between (pos 0) (pos (2 ^ 8 - 1))
     else None
 
 -- no less than the least value

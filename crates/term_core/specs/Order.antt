@@ -46,18 +46,18 @@ abbrev pub size_of : Term → ℕ
 size_of t = length (text_of t) + length (datatype_of t) + length (lang_of t)
 
 -- the subject is an IRI or a blank node (RDF 1.1 Concepts, section 3.1)
-abbrev pub IsSubject : Term → Type 0
-IsSubject (Iri iri) = Unit {0}
-IsSubject (Blank label) = Unit {0}
-IsSubject (Literal lexical datatype lang) = ⊥
+abbrev pub MayBeSubject : Term → Type 0
+MayBeSubject (Iri iri) = Unit {0}
+MayBeSubject (Blank label) = Unit {0}
+MayBeSubject (Literal lexical datatype lang) = ⊥
 
 -- the predicate is an IRI (RDF 1.1 Concepts, section 3.1)
-abbrev pub IsPredicate : Term → Type 0
-IsPredicate (Iri iri) = Unit {0}
-IsPredicate (Blank label) = ⊥
-IsPredicate (Literal lexical datatype lang) = ⊥
+abbrev pub MayBePredicate : Term → Type 0
+MayBePredicate (Iri iri) = Unit {0}
+MayBePredicate (Blank label) = ⊥
+MayBePredicate (Literal lexical datatype lang) = ⊥
 
 -- an RDF triple (RDF 1.1 Concepts, section 3.1)
 pub record IsAllowed (t : Triple) : Type 0 where
-  pub subject : IsSubject t.subject
-  pub predicate : IsPredicate t.predicate
+  pub subject : MayBeSubject t.subject
+  pub predicate : MayBePredicate t.predicate

@@ -1,7 +1,8 @@
 -- The order on terms is total, and only equal terms tie.
-use Rattle.std.proofs.Common.{◌≡◌, ℕ, List, refl, ap, arith, Equal, Less, Greater}
+use Rattle.std.proofs.Common.{◌≡◌, ◌++◌, ℕ, true, List, refl, ap, arith, Equal, Less, Greater}
+use Rattle.std.specs.Hash as fed
 use Rattle.std.specs.declared.cmp.Ordering.{Ordering}
-use Rattle.std.specs.Ordering.{ordering_then}
+use Rattle.std.specs.Ordering.{ordering_then, eq_by_cmp, is_eq}
 use Rattle.std.specs.Cmp.{IsTotalOrder}
 use Rattle.std.specs.FinMap.{slice_cmp-IsAntisymmetric, nat_cmp-IsAntisymmetric}
 use Rattle.std.proofs.lemmas.Cmp.{then_total, on_total, nat_cmp_total, nat_list_cmp_total}
@@ -44,3 +45,18 @@ same_terms a b e =
     let second = both_tie _ _ first.1 in
     let third = both_tie _ _ second.1 in
     same_parts a b (nat_cmp-IsAntisymmetric _ _ first.0) (same_bytes _ _ second.0) (same_bytes _ _ third.0) (same_bytes _ _ third.1)
+
+-- what a hasher is given of a term: its kind, and its texts
+abbrev pub hash_writes : Term → fed.HashWrites
+hash_writes (Blank label) = fed.u8 0 ++ fed.str label
+hash_writes (Iri iri) = fed.u8 1 ++ fed.str iri
+hash_writes (Literal lexical datatype lang) = fed.u8 2 ++ (fed.str lexical ++ (fed.str datatype ++ fed.str lang))
+
+-- equal terms hash alike
+pub hash_alike : (a b : Term) → eq_by_cmp term_cmp a b ≡ true → hash_writes a ≡ hash_writes b
+hash_alike a b e = ap hash_writes (same_terms a b (tied (term_cmp a b) e))
+  where
+    tied : (o : Ordering) → is_eq o ≡ true → o ≡ Equal
+    tied Less h = cc
+    tied Equal h = refl
+    tied Greater h = cc

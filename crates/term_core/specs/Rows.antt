@@ -8,22 +8,22 @@ use Rattle.term_core.specs.declared.term.Term.{Term}
 use Rattle.term_core.specs.Order.{bytes_cmp}
 
 -- names, each with its term
-abbrev pub Entries : Type 0
-Entries = List (List ℕ × Term)
+abbrev pub RowEntries : Type 0
+RowEntries = List (List ℕ × Term)
 
 -- in the order of the names, each of which stands once
-abbrev pub AreSorted : Entries → Type 0
+abbrev pub AreSorted : RowEntries → Type 0
 AreSorted es = T (is_sorted bytes_cmp es)
 
 -- a place where the name stands, so that setting it there puts it; or one where it goes in, if it stands nowhere
-abbrev pub IsPlace : Result ℕ ℕ → Entries → List ℕ → Type 0
+abbrev pub IsPlace : Result ℕ ℕ → RowEntries → List ℕ → Type 0
 IsPlace (Ok at) es name = (at < length es) × ((v : Term) → put bytes_cmp name v es ≡ slice_set es at (name, v))
 IsPlace (Err at) es name = (at ≤ length es) × ((v : Term) → put bytes_cmp name v es ≡ insert es at (name, v))
 
 -- an entry by its name's bytes
-abbrev pub entry_of : String Global × Term → List ℕ × Term
-entry_of entry = (string_bytes entry.0, entry.1)
+abbrev pub named_term : String Global × Term → List ℕ × Term
+named_term entry = (string_bytes entry.0, entry.1)
 
 -- the row of a tree of names
 abbrev pub row_of : BTreeMap (String Global) Term → FinMap bytes_cmp Term
-row_of terms = from_entries (map entry_of terms.entries)
+row_of terms = from_entries (map named_term terms.entries)

@@ -1,8 +1,7 @@
 -- The terminals of a query text, each the language of a kind of token, on lists of characters (SPARQL 1.1 19.8).
 use Rattle.std.specs.Prelude.{◌≡◌, ◌≢◌, ◌⊎◌, ◌<◌, suc, ◌++◌, ℕ, Bool, true, ◌||◌, ◌==◌, not, codes, List, [], ◌∷◌}
 use Rattle.term_core.specs.Bags.{In}
-use Rattle.term_core.specs.Characters.{is_among, is_in_ranges, pn_more_ranges, is_digit, is_letter, is_hex, AreAll}
-use Rattle.term_core.specs.Characters.{is_pn_base, is_pn_u, is_pn}
+use Rattle.term_core.specs.Characters.{is_among, is_in_ranges, pn_more_ranges, is_digit, is_letter, is_hex, AreAll, is_pn_base, is_pn_u, is_pn}
 use Rattle.term_core.specs.Escapes.{IsEscaped, IsIriBody, IsStringEscape}
 use Rattle.term_core.specs.Names.{IsName, IsTag}
 use Rattle.term_core.specs.declared.token.Kind.{Kind}
@@ -55,13 +54,13 @@ pub record IsPrefixedName (text : List ℕ) : Type 0 where
   pub spelled : text ≡ prefix ++ 58 ∷ local
 
 -- how a label of a blank node, and a variable's name, may begin (SPARQL 1.1 19.8, BLANK_NODE_LABEL and VARNAME)
-abbrev pub is_label_first : ℕ → Bool
-is_label_first c = is_pn_u c || is_digit c
+abbrev pub is_query_label_first : ℕ → Bool
+is_query_label_first c = is_pn_u c || is_digit c
 
 -- _: and a label (SPARQL 1.1 19.8, BLANK_NODE_LABEL)
 pub record IsBlank (text : List ℕ) : Type 0 where
   pub label : List ℕ
-  pub is_label : IsName is_label_first is_pn label
+  pub is_label : IsName is_query_label_first is_pn label
   pub spelled : text ≡ 95 ∷ 58 ∷ label
 
 -- how a variable's name goes on (SPARQL 1.1 19.8, VARNAME)
@@ -74,7 +73,7 @@ pub record IsVariable (text : List ℕ) : Type 0 where
   pub first : ℕ
   pub more : List ℕ
   pub is_mark : is_among (codes "?$") mark ≡ true
-  pub is_first : is_label_first first ≡ true
+  pub is_first : is_query_label_first first ≡ true
   pub are_parts : AreAll is_variable_part more
   pub spelled : text ≡ mark ∷ first ∷ more
 

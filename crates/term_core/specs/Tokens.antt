@@ -1,7 +1,6 @@
 -- A query text is cut into tokens, spaces and comments, each token the longest that begins at its place
 -- (SPARQL 1.1 19.4 and 19.8).
-use Rattle.std.specs.Prelude.{◌≡◌, ◌⊎◌, ◌≤◌, ◌+◌, ◌++◌, ℕ, Bool, true, false, not, codes, List, [], ◌∷◌, length}
-use Rattle.std.specs.Prelude.{encode_utf8_all, IsUtf8}
+use Rattle.std.specs.Prelude.{◌≡◌, ◌⊎◌, ◌≤◌, ◌+◌, ◌++◌, ℕ, Bool, true, false, not, codes, List, [], ◌∷◌, length, encode_utf8_all, IsUtf8}
 use Rattle.std.specs.Str.{chars}
 use Rattle.std.specs.Str.Lossy.{utf8_valid_len}
 use Rattle.term_core.specs.Characters.{is_among, AreAll}

@@ -1,6 +1,6 @@
 //! Laws of the definitions that the other contracts cite. Each is the contract of a function that does nothing.
 
-ghost use Rattle.std.specs.Prelude.{◌≡◌, ◌∷◌, ◌↔◌, [], List, Option, Some, None, ℕ, true};
+ghost use Rattle.std.specs.Prelude.{◌≡◌, ◌∷◌, ◌++◌, ◌↔◌, filter, [], List, Option, Some, None, ℕ, true};
 ghost use Rattle.std.specs.Cmp.{IsTotalOrder};
 ghost use Rattle.std.specs.List.Sorted.{IsPermutation};
 ghost use Rattle.std.specs.declared.cmp.Ordering.TheVariants.{Equal};
@@ -8,7 +8,7 @@ ghost use Rattle.std.specs.FinMap as map;
 ghost use Rattle.term_core.specs.Order.{bytes_cmp};
 ghost use Rattle.term_core.specs.Ids.{id_cmp};
 ghost use Rattle.term_core.specs.declared.pattern.IdTriple.{IdTriple};
-ghost use Rattle.term_core.specs.Bags.{In, SameBag, AreDistinct, distinct};
+ghost use Rattle.term_core.specs.Bags.{In, SameBag, AreDistinct, distinct, is_new};
 ghost use Rattle.term_core.specs.Mappings.{Name, Row, value, same_name, same_term};
 ghost use Rattle.term_core.specs.Mappings.{are_compatible, joined, joins, restricted, IsJoin, IsAmongJoins};
 ghost use Rattle.term_core.specs.declared.term.Term.{Term};
@@ -72,10 +72,15 @@ pub fn bags_are_rearrangements()
         → ((x : Row) → In xs x ↔ In ys x) → SameBag xs ys }
 {}
 
-/// `distinct` keeps each name and each term of a list exactly once.
+/// `distinct` keeps each name and each term of a list exactly once, at its first place: what stands
+/// behind adds what does not stand in front.
 pub fn distinct_keeps_each_once()
     ensures names { (xs : List Name) → AreDistinct (distinct same_name xs) }
     ensures same_names { (xs : List Name) (x : Name) → In (distinct same_name xs) x ↔ In xs x }
+    ensures first_names { (xs ys : List Name) → distinct same_name (xs ++ ys)
+        ≡ distinct same_name xs ++ filter (is_new same_name xs) (distinct same_name ys) }
     ensures terms { (xs : List Term) → AreDistinct (distinct same_term xs) }
     ensures same_terms { (xs : List Term) (x : Term) → In (distinct same_term xs) x ↔ In xs x }
+    ensures first_terms { (xs ys : List Term) → distinct same_term (xs ++ ys)
+        ≡ distinct same_term xs ++ filter (is_new same_term xs) (distinct same_term ys) }
 {}

@@ -36,8 +36,8 @@ impl Model for Row {
 }
 
 impl Row {
-    /// The row of entries that stand in the byte order of their names, each name once.
-    pub(crate) fn of_sorted(entries: Vec<(Text, Term)>) -> Row
+    /// The row of entries that stand in the byte order of their names, each name once. They are taken and not copied.
+    pub fn of_sorted(entries: Vec<(Text, Term)>) -> Row
         requires { AreSorted entries.items }
         ensures { result ≡ map.from_sorted entries.items }
     {

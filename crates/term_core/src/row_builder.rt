@@ -2,7 +2,7 @@
 
 ghost use Rattle.std.specs.Prelude.{◌≡◌, OnOk, OnErr, IfOk, map};
 ghost use Rattle.std.specs.FinMap as finmap;
-ghost use Rattle.term_core.specs.Rows.{AreSorted, entry_of};
+ghost use Rattle.term_core.specs.Rows.{AreSorted, named_term};
 
 use crate::{Memory, Row, Term, Text};
 use std::alloc::Global;
@@ -62,7 +62,7 @@ impl RowBuilder {
 
 /// The entries of a tree, in the byte order of the names.
 fn in_order(alloc: Global, terms: BTreeMap<String, Term>) -> Result<Vec<(Text, Term)>, Memory>
-    ensures entries { IfOk result (λ entries. entries.items ≡ map entry_of terms.entries) }
+    ensures entries { IfOk result (λ entries. entries.items ≡ map named_term terms.entries) }
     ensures sorted { IfOk result (λ entries. AreSorted entries.items) }
 {
     let mut entries = Vec::new(alloc);

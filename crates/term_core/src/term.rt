@@ -1,12 +1,15 @@
 //! RDF terms and triples, and the order on terms.
 
-ghost use Rattle.std.specs.Prelude.{◌≡◌, ◌^◌, ◌-◌, min, MatchResult, IfOk};
+ghost use Rattle.std.specs.Prelude.{◌≡◌, ◌^◌, ◌-◌, [], min, MatchResult, IfOk};
 ghost use Rattle.std.specs.Cmp.{IsTotalOrder};
-ghost use Rattle.term_core.specs.Order.{rank_of, size_of, term_cmp, IsAllowed};
+ghost use Rattle.term_core.specs.Order.{rank_of, text_of, size_of, term_cmp, IsAllowed};
+ghost use Rattle.term_core.specs.Texts.{xsd_string};
+ghost use Rattle.term_core.specs.Spelling.{lang_string};
 
-use crate::{Memory, Text};
+use crate::{Memory, RDF_LANG_STRING, Text, XSD_STRING};
 use std::alloc::Global;
 use std::cmp::Ordering;
+use std::hash::{Hash, Hasher};
 
 /// An RDF term (RDF 1.1 Concepts, section 3.1).
 #[derive(Debug, Drop)]
@@ -55,6 +58,60 @@ impl Term {
             }),
         }
     }
+
+    /// The literal of a lexical form and a datatype (RDF 1.1 Concepts, section 3.3), without a tag.
+    pub fn typed(alloc: Global, lexical: Text, datatype: Text) -> Result<Term, Memory>
+        ensures { IfOk result (λ term. term ≡ Term.Literal lexical datatype []) }
+    {
+        let lang = Text::from_str(alloc, "")?;
+        Ok(Term::Literal {
+            lexical,
+            datatype,
+            lang,
+        })
+    }
+
+    /// The literal of a string without a tag (RDF 1.1 Concepts, section 3.3, simple literals).
+    pub fn plain(alloc: Global, lexical: Text) -> Result<Term, Memory>
+        ensures { IfOk result (λ term. term ≡ Term.Literal lexical xsd_string []) }
+    {
+        let datatype = Text::from_str(alloc, XSD_STRING)?;
+        Term::typed(alloc, lexical, datatype)
+    }
+
+    /// The literal of a string with this tag (RDF 1.1 Concepts, section 3.3, language-tagged strings).
+    pub fn tagged(alloc: Global, lexical: Text, lang: Text) -> Result<Term, Memory>
+        ensures { IfOk result (λ term. term ≡ Term.Literal lexical lang_string lang) }
+    {
+        let datatype = Text::from_str(alloc, RDF_LANG_STRING)?;
+        Ok(Term::Literal {
+            lexical,
+            datatype,
+            lang,
+        })
+    }
+
+    /// The place of the term's kind in the order of terms: 0 for a blank node, 1 for an IRI, 2 for a literal.
+    pub fn kind(&self) -> u8
+        ensures { result ≡ rank_of self.now }
+    {
+        match self {
+            Term::Blank(_) => 0,
+            Term::Iri(_) => 1,
+            Term::Literal { .. } => 2,
+        }
+    }
+
+    /// The label, the IRI or the lexical form, which after the kind decides the order of terms first.
+    pub fn text(&self) -> &str
+        ensures { result.now ≡ text_of self.now }
+    {
+        match self {
+            Term::Blank(label) => label.as_str(),
+            Term::Iri(iri) => iri.as_str(),
+            Term::Literal { lexical, .. } => lexical.as_str(),
+        }
+    }
 }
 
 /// The bytes of the IRI or label, or of lexical form, datatype and tag together. The sum stops at
@@ -88,16 +145,6 @@ pub fn check_triple(t: &Triple) -> Result<(), NotATriple>
     }
 }
 
-fn rank(term: &Term) -> u8
-    ensures { result ≡ rank_of term.now }
-{
-    match term {
-        Term::Blank(_) => 0,
-        Term::Iri(_) => 1,
-        Term::Literal { .. } => 2,
-    }
-}
-
 /// The order on terms: blank nodes by label, then IRIs, then literals by lexical form, datatype and
 /// tag, each by bytes. It refines the order of kinds in SPARQL 1.1, section 15.1.
 pub fn compare(a: &Term, b: &Term) -> Ordering
@@ -125,7 +172,7 @@ pub fn compare(a: &Term, b: &Term) -> Ordering
             Ordering::Less => Ordering::Less,
             Ordering::Greater => Ordering::Greater,
         },
-        _ => rank(a).cmp(&rank(b)),
+        _ => a.kind().cmp(&b.kind()),
     }
 }
 
@@ -187,5 +234,22 @@ impl Ord for Term {
 
     fn cmp(&self, other: &Term) -> Ordering {
         compare(self, other)
+    }
+}
+
+impl Hash for Term {
+    ghost use Rattle.term_core.specs.OrderLaws.{hash_writes, hash_alike};
+
+    ghost hash_input = { hash_writes };
+
+    ghost respects_eq = { hash_alike };
+
+    fn hash<H: Hasher>(&self, state: &mut H) {
+        state.write_u8(self.kind());
+        self.text().hash(state);
+        if let Term::Literal { datatype, lang, .. } = self {
+            datatype.as_str().hash(state);
+            lang.as_str().hash(state);
+        }
     }
 }

@@ -1,5 +1,6 @@
 use Rattle.std.proofs.Common.{◌≡◌, ◌++◌, take, drop}
-use Rattle.pattern_query.specs.Terminals.{is_in, front, after}
+use Rattle.pattern_query.specs.Terminals.{is_in}
+use Rattle.term_core.specs.Characters.{front, after}
 use Rattle.pattern_query.proofs.terminals.span.Given as goal
 
 abbrev pub invariant-loop-i : goal.invariant-loop-i

@@ -10,17 +10,15 @@ use Rattle.term_core.specs.declared.term.Term.{Term}
 use Rattle.term_core.specs.declared.term.Triple.{Triple}
 use Rattle.term_core.specs.Order.{term_cmp}
 use Rattle.term_core.specs.OrderLaws.{terms_total, same_terms}
-use Rattle.term_core.specs.Bags.{In, AreDistinct, total, SameBag}
+use Rattle.term_core.specs.Bags.{In, AreDistinct, total, SameBag, HaveSame}
 use Rattle.term_core.specs.Mappings.{same_term}
 use Rattle.term_core.proofs.Bags.{In-flat_map, same_members}
 use Rattle.term_core.proofs.Merges.{Some_same, terms_same, term_itself}
 use Rattle.term_core.proofs.Distinct.{In-distinct, AreDistinct-distinct}
-use Rattle.sparql_tree.specs.Bgp.{parts, terms_of}
-use Rattle.sparql_tree.specs.Laws.{HaveSame}
-use Rattle.plan_tree.specs.Index.{in_order}
-use Rattle.plan_tree.specs.States.{rank, ids_of}
-use Rattle.plan_tree.specs.StateLaws.{PlacesAreRanks, RanksAreExact}
-use Rattle.plan_tree.proofs.Orders.{all_at, AreDistinct-ordered, from_In-in_order, ordered-in_order, In-in_order}
+use Rattle.term_core.specs.Data.{parts, terms_of, rank, ids_of}
+use Rattle.term_core.specs.Index.{in_order}
+use Rattle.term_core.specs.DataLaws.{PlacesAreRanks, RanksAreExact}
+use Rattle.term_core.proofs.Orders.{all_at, AreDistinct-ordered, from_In-in_order, ordered-in_order, In-in_order}
 
 -- members and places
 pub In-slice_get : {X : Type 0} (xs : List X) (k : ℕ) (x : X) → slice_get xs k ≡ Some x → In xs x

@@ -1,5 +1,5 @@
 -- The three orders of triples, and which of them a pattern reads.
-use Rattle.std.specs.Prelude.{List, [], ◌∷◌, Option, Some, None, Bool, true, false, is_some}
+use Rattle.std.specs.Prelude.{List, [], ◌∷◌, Option, Some, None, Bool, true, false, is_some, filter}
 use Rattle.std.specs.Ordering.{ordering_then}
 use Rattle.std.specs.declared.cmp.Ordering.{Ordering}
 use Rattle.std.specs.declared.cmp.Ordering.TheVariants.{Less, Equal, Greater}
@@ -7,7 +7,7 @@ use Rattle.term_core.specs.declared.term.Term.{Term}
 use Rattle.term_core.specs.declared.term.Triple.{Triple}
 use Rattle.term_core.specs.Order.{term_cmp}
 use Rattle.term_core.specs.Mappings.{Row}
-use Rattle.sparql_tree.specs.Bgp.{Pattern, filled}
+use Rattle.term_core.specs.Patterns.{Pattern, filled, agrees}
 
 -- an index lists triples by subject, predicate, object; by predicate, object, subject; or by object, subject, predicate
 pub data Index : Type 0 where
@@ -72,3 +72,7 @@ put_in R x (y ∷ ys) = by_order (R x y) (x ∷ y ∷ ys) (y ∷ ys) (y ∷ put_
 abbrev pub in_order : {X : Type 0} → (X → X → Ordering) → List X → List X
 in_order R [] = []
 in_order R (x ∷ xs) = put_in R x (in_order R xs)
+
+-- the triples of the data that agree, in the order of the pattern's index
+abbrev pub range : List Triple → Pattern → Row → List Triple
+range D p row = filter (agrees p row) (in_order (index_cmp p row) D)

@@ -8,7 +8,7 @@ use Rattle.std.specs.Ordering.{ordering_reverse}
 use Rattle.std.specs.Cmp.{IsTotalOrder}
 use Rattle.std.proofs.lemmas.Cmp.{tied_itself}
 use Rattle.term_core.specs.Bags.{In, AreDistinct}
-use Rattle.plan_tree.specs.Index.{by_order, put_in, in_order}
+use Rattle.term_core.specs.Index.{by_order, put_in, in_order}
 
 -- a fact of all members, by recursion and by membership
 pub all_at : {X : Type 0} (P : X → Type 0) (xs : List X) (x : X) → AllByRecursion P xs → In xs x → P x

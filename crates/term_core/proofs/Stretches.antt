@@ -13,12 +13,11 @@ use Rattle.term_core.specs.Bags.{In}
 use Rattle.term_core.specs.Mappings.{Row}
 use Rattle.term_core.proofs.Bags.{from_In-filter}
 use Rattle.term_core.proofs.Merges.{tie}
-use Rattle.sparql_tree.specs.Bgp.{Pattern, filled}
-use Rattle.plan_tree.specs.Index.{Index, by_subject, by_predicate, by_object, index_at, index_of, triple_cmp, index_cmp, side_at, sides, side, in_order}
-use Rattle.plan_tree.specs.Trace.{fits, agrees}
-use Rattle.plan_tree.specs.Laws.{IsStretch}
-use Rattle.plan_tree.proofs.Orders.{all_at, ordered-in_order}
-use Rattle.plan_tree.proofs.Ranges.{index_total}
+use Rattle.term_core.specs.Patterns.{Pattern, filled, fits, agrees}
+use Rattle.term_core.specs.Index.{Index, by_subject, by_predicate, by_object, index_at, index_of, triple_cmp, index_cmp, side_at, sides, side, in_order}
+use Rattle.term_core.specs.DataLaws.{IsStretch}
+use Rattle.term_core.proofs.Orders.{all_at, ordered-in_order}
+use Rattle.term_core.proofs.Ranges.{index_total}
 
 -- the first comes no later than the second
 abbrev pub AtMost : Ordering → Ordering → Type 0

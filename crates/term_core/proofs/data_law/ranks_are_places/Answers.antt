@@ -1,5 +1,5 @@
-use Rattle.plan_tree.proofs.states.ranks_are_places.Goals as goal
-use Rattle.plan_tree.proofs.Ranked.{ranks_are_places, ranks_exact}
+use Rattle.term_core.proofs.data_law.ranks_are_places.Goals as goal
+use Rattle.term_core.proofs.Ranked.{ranks_are_places, ranks_exact}
 
 pub returns-clause-places : goal.returns-clause-places
 returns-clause-places c = ranks_are_places

@@ -1,6 +1,6 @@
-use Rattle.plan_tree.proofs.law.range_is.Goals as goal
-use Rattle.plan_tree.proofs.Ranges.{range_is}
-use Rattle.plan_tree.proofs.Stretches.{stretch}
+use Rattle.term_core.proofs.data_law.range_is.Goals as goal
+use Rattle.term_core.proofs.Ranges.{range_is}
+use Rattle.term_core.proofs.Stretches.{stretch}
 
 pub returns-clause-range : goal.returns-clause-range
 returns-clause-range c = range_is

@@ -6,15 +6,13 @@ use Rattle.std.proofs.lemmas.Cmp.{then_total, on_total}
 use Rattle.std.proofs.lemmas.List.Kept.{IsStrictlySortedBy-filter}
 use Rattle.term_core.specs.declared.term.Triple.{Triple}
 use Rattle.term_core.specs.OrderLaws.{terms_total, same_terms, both_tie}
-use Rattle.term_core.specs.Bags.{In, AreDistinct}
+use Rattle.term_core.specs.Bags.{In, AreDistinct, HaveSame}
 use Rattle.term_core.specs.Mappings.{Row}
 use Rattle.term_core.proofs.Bags.{In-filter, from_In-filter}
-use Rattle.sparql_tree.specs.Bgp.{Pattern}
-use Rattle.sparql_tree.specs.Laws.{HaveSame}
-use Rattle.plan_tree.specs.Index.{Index, by_subject, by_predicate, by_object, index_of, triple_cmp, index_cmp, in_order}
-use Rattle.plan_tree.specs.Trace.{agrees, range}
-use Rattle.plan_tree.specs.Laws.{IsListing, ListingIs, IsRange, RangeIs}
-use Rattle.plan_tree.proofs.Orders.{AreDistinct-ordered, from_In-in_order, ordered-in_order, same_ordered, In-in_order}
+use Rattle.term_core.specs.Patterns.{Pattern, agrees}
+use Rattle.term_core.specs.Index.{Index, by_subject, by_predicate, by_object, index_of, triple_cmp, index_cmp, in_order, range}
+use Rattle.term_core.specs.DataLaws.{IsListing, ListingIs, IsRange, RangeIs}
+use Rattle.term_core.proofs.Orders.{AreDistinct-ordered, from_In-in_order, ordered-in_order, same_ordered, In-in_order}
 
 -- each index is a total order, in which equal triples alone tie
 pub index_total : (index : Index) → IsTotalOrder (triple_cmp index)
