@@ -1,5 +1,5 @@
 -- Documents: what reading answers is what the grammar says.
-use Rattle.std.proofs.Common.{◌≡◌, ◌≢◌, ℕ, ◌<◌, ◌≤◌, ◌+◌, Bool, true, false, cond, ◌&&◌, nat_lt, nat_le, List, [], ◌∷◌, ◌++◌, length, Option, Some, None, Result, Ok, Err, IfOk, IfErr, refl, sym, ap, ◌∙◌, subst, append_assoc, length-append, arith}
+use Rattle.std.proofs.Common.{◌≡◌, ◌≢◌, ◌⊎◌, inl, inr, ℕ, ◌<◌, ◌≤◌, ◌+◌, Bool, true, false, cond, ◌&&◌, nat_lt, nat_le, List, [], ◌∷◌, ◌++◌, length, Option, Some, None, Result, Ok, Err, IfOk, IfErr, refl, sym, ap, ◌∙◌, subst, append_assoc, length-append, arith}
 use Rattle.std.proofs.lemmas.List.{append-nil}
 use Rattle.std.proofs.lemmas.List.Elements.{All-nil, All-cons, All-push, All-head, All-take, All-drop}
 use Rattle.std.proofs.Math.Seq.{take-append_seam, drop-append_seam}
@@ -376,3 +376,11 @@ no_both bytes ts f some h within k = apart (sym (document_unique bytes (Ok ts) (
   where
     apart : (let r : Outcome = Ok ts in r ≡ Err f) → ⊥
     apart e = absurd cc
+
+-- bytes have a document within the limits, or a cause
+pub always : (bytes : List ℕ) → ((ts : List Triple) × IsDocument bytes ts × IsWithinLimits bytes ts) ⊎ ((fault : DataFault) × (fault ≢ faults.Memory) × WhyRefused bytes fault)
+always bytes = by_outcome (document_of bytes) (document_is bytes)
+  where
+    by_outcome : (r : Outcome) → IsJudgement bytes r → ((ts : List Triple) × IsDocument bytes ts × IsWithinLimits bytes ts) ⊎ ((fault : DataFault) × (fault ≢ faults.Memory) × WhyRefused bytes fault)
+    by_outcome (Ok ts) (h, within) = inl (ts, h, within)
+    by_outcome (Err fault) (why, some) = inr (fault, some, why)

@@ -14,3 +14,6 @@ pub mod Judged
 pub mod SpelledTerms
 pub mod WrittenText
 pub mod Written
+pub mod Runs
+pub mod ReadBack
+pub mod Growth

@@ -193,12 +193,12 @@ object_parts text (terms.Iri iri) rest scalars h = iri_parts text iri rest scala
 object_parts text (terms.Blank label) rest scalars h = label_parts text label rest scalars h
 object_parts text (terms.Literal lexical datatype lang) rest scalars h = literal_parts text lexical datatype lang rest scalars h
 
-subject_parts : (text : List ℕ) (t : Term) (rest : List ℕ) → IsScalars text → IsSubject text t rest → IsSpelled t × IsScalars rest × order.IsSubject t
+subject_parts : (text : List ℕ) (t : Term) (rest : List ℕ) → IsScalars text → IsSubject text t rest → IsSpelled t × IsScalars rest × order.MayBeSubject t
 subject_parts text (terms.Iri iri) rest scalars h = let p = iri_parts text iri rest scalars h in (p.0, p.1, tt)
 subject_parts text (terms.Blank label) rest scalars h = let p = label_parts text label rest scalars h in (p.0, p.1, tt)
 subject_parts text (terms.Literal lexical datatype lang) rest scalars h = absurd h
 
-predicate_parts : (text : List ℕ) (t : Term) (rest : List ℕ) → IsScalars text → IsPredicate text t rest → IsSpelled t × IsScalars rest × order.IsPredicate t
+predicate_parts : (text : List ℕ) (t : Term) (rest : List ℕ) → IsScalars text → IsPredicate text t rest → IsSpelled t × IsScalars rest × order.MayBePredicate t
 predicate_parts text (terms.Iri iri) rest scalars h = let p = iri_parts text iri rest scalars h in (p.0, p.1, tt)
 predicate_parts text (terms.Blank label) rest scalars h = absurd h
 predicate_parts text (terms.Literal lexical datatype lang) rest scalars h = absurd h

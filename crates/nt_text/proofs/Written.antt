@@ -1,6 +1,7 @@
 -- What is written reads back: the line of a triple is a document with that triple.
 use Rattle.std.proofs.Common.{◌≡◌, ◌≢◌, ◌≤◌, ℕ, Bool, true, false, ◌||◌, not, List, [], ◌∷◌, ◌++◌, inl, inr, length, eqb, refl, sym, ap, ◌∙◌, subst, arith, append_assoc}
 use Rattle.std.proofs.lemmas.Bool.{eqb-true}
+use Rattle.std.proofs.lemmas.List.{append-nil}
 use Rattle.std.proofs.lemmas.Slice.Eq.{bytes_eq-Decides}
 use Rattle.std.specs.Prelude.{flat_map}
 use Rattle.std.specs.Str.{bytes_eq}
@@ -17,7 +18,7 @@ use Rattle.term_core.specs.declared.term.Term.{Term}
 use Rattle.term_core.specs.declared.term.Term.TheVariants as terms
 use Rattle.term_core.specs.declared.term.Triple.{Triple}
 use Rattle.nt_text.specs.Characters.{is_blank, is_line}
-use Rattle.nt_text.specs.Grammar.{IsIri, IsString, IsLongest, IsSpaced, IsLiteral, IsSubject, IsPredicate, IsObject, IsTriple, IsDocument}
+use Rattle.nt_text.specs.Grammar.{IsIri, IsString, IsLongest, IsSpaced, IsLiteral, IsSubject, IsPredicate, IsObject, IsTriple, AreLinesOf, IsDocument}
 use Rattle.nt_text.proofs.EscapeLaws.{all_parts, all_both}
 use Rattle.nt_text.proofs.TagLaws.{is_small, weaker, tag_small}
 use Rattle.nt_text.proofs.WrittenText.{IsWrittenAs, written_as, text_both, text_small, text_escaped}
@@ -313,12 +314,12 @@ term_written (terms.Literal lexical datatype lang) ((cs, (scalars, encoded)), ki
 
 -- ---- triples
 
-subject_of : (text : List ℕ) (t : Term) (rest : List ℕ) → order.IsSubject t → IsObject text t rest → IsSubject text t rest
+subject_of : (text : List ℕ) (t : Term) (rest : List ℕ) → order.MayBeSubject t → IsObject text t rest → IsSubject text t rest
 subject_of text (terms.Iri iri) rest allowed h = h
 subject_of text (terms.Blank label) rest allowed h = h
 subject_of text (terms.Literal lexical datatype lang) rest allowed h = absurd allowed
 
-predicate_of : (text : List ℕ) (t : Term) (rest : List ℕ) → order.IsPredicate t → IsObject text t rest → IsPredicate text t rest
+predicate_of : (text : List ℕ) (t : Term) (rest : List ℕ) → order.MayBePredicate t → IsObject text t rest → IsPredicate text t rest
 predicate_of text (terms.Iri iri) rest allowed h = h
 predicate_of text (terms.Blank label) rest allowed h = absurd allowed
 predicate_of text (terms.Literal lexical datatype lang) rest allowed h = absurd allowed
@@ -365,26 +366,47 @@ behind_all a b c end =
     append_assoc a (32 ∷ (b ++ 32 ∷ (c ++ 32 ∷ end))) (10 ∷ [])
     ∙ ap (λ t. a ++ 32 ∷ t) (append_assoc b (32 ∷ (c ++ 32 ∷ end)) (10 ∷ []) ∙ ap (λ t. b ++ 32 ∷ t) (append_assoc c (32 ∷ end) (10 ∷ [])))
 
-written_is : (t : Triple) → IsAllowed t → (s : IsWritten t.subject) (p : IsWritten t.predicate) (o : IsWritten t.object) → IsDocument (triple_text t) (t ∷ [])
-written_is t allowed s p o =
+-- no triple is written as no text
+pub nothing_written : IsDocument [] []
+nothing_written = record {
+  characters = [];
+  is_text = text_small [] refl;
+  lines = [] ∷ [];
+  are_its = (refl, refl);
+  reads = ([], [], refl, ([], no_space [] refl, inl refl), refl);
+}
+
+-- the line of a triple in front of a document
+written_before : (t : Triple) (more : List ℕ) (ts : List Triple) → IsAllowed t → (s : IsWritten t.subject) (p : IsWritten t.predicate) (o : IsWritten t.object)
+    → IsDocument more ts → IsDocument (triple_text t ++ more) (t ∷ ts)
+written_before t more ts allowed s p o d =
     let line : List ℕ = in_line_of s.characters p.characters o.characters (46 ∷ []) in
     let bytes : List ℕ = in_line_of (term_text t.subject) (term_text t.predicate) (term_text t.object) (46 ∷ []) in
     let text = triple_line s.characters p.characters o.characters (46 ∷ []) (term_text t.subject) (term_text t.predicate) (term_text t.object) s.text p.text o.text (line_small (46 ∷ []) refl refl) in
     let reads = triple_reads t allowed s p o in
     let nothing_left : IsSpaced [] [] = no_space [] refl in
+    let all = sym (append_assoc bytes (10 ∷ []) more) ∙ ap (λ t. t ++ more) (behind_all (term_text t.subject) (term_text t.predicate) (term_text t.object) (46 ∷ [])) in
+    let behind = text_both (10 ∷ []) d.characters (10 ∷ []) more (text_small (10 ∷ []) refl) d.is_text in
     record {
-      characters = line ++ 10 ∷ [];
-      is_text = subst (IsTextOf (line ++ 10 ∷ [])) (behind_all (term_text t.subject) (term_text t.predicate) (term_text t.object) (46 ∷ [])) (text_both line (10 ∷ []) bytes (10 ∷ []) text.is_text (text_small (10 ∷ []) refl));
-      lines = line ∷ [] ∷ [];
-      are_its = ([], record { behind = 10 ∷ []; spelled = refl; in_line = text.in_line; ended = inr (inl refl) }, (refl, refl));
+      characters = line ++ 10 ∷ d.characters;
+      is_text = subst (IsTextOf (line ++ 10 ∷ d.characters)) all (text_both line (10 ∷ d.characters) bytes (10 ∷ more) text.is_text behind);
+      lines = line ∷ d.lines;
+      are_its = ended line d.characters d.lines text.in_line d.are_its;
       reads = (
         t ∷ [],
-        [],
+        ts,
         refl,
         record { text = line; rest = []; end = []; space = no_space line (s.begun (32 ∷ (p.characters ++ 32 ∷ (o.characters ++ 32 ∷ 46 ∷ [])))); reads = reads; last_space = nothing_left; is_end = inl refl },
-        ([], [], refl, ([], nothing_left, inl refl), refl),
+        d.reads,
       );
     }
+  where
+    ended : (line cs : List ℕ) (lines : List (List ℕ)) → AreAll is_line line → AreLinesOf cs lines → AreLinesOf (line ++ 10 ∷ cs) (line ∷ lines)
+    ended line cs [] all are = absurd are
+    ended line cs (next ∷ lines) all are = (cs, record { behind = 10 ∷ cs; spelled = refl; in_line = all; ended = inr (inl refl) }, are)
+
+pub line_before : (t : Triple) (more : List ℕ) (ts : List Triple) → IsAllowed t → AreSpelled t → IsDocument more ts → IsDocument (triple_text t ++ more) (t ∷ ts)
+line_before t more ts allowed is d = written_before t more ts allowed (term_written t.subject is.subject) (term_written t.predicate is.predicate) (term_written t.object is.object) d
 
 pub written : (t : Triple) → IsAllowed t → AreSpelled t → IsDocument (triple_text t) (t ∷ [])
-written t allowed is = written_is t allowed (term_written t.subject is.subject) (term_written t.predicate is.predicate) (term_written t.object is.object)
+written t allowed is = subst (λ bytes. IsDocument bytes (t ∷ [])) (append-nil (triple_text t)) (line_before t [] [] allowed is nothing_written)

@@ -3,3 +3,4 @@ pub mod Grammar
 pub mod Limits
 pub mod Faults
 pub mod Reading
+pub mod Growth

@@ -59,7 +59,7 @@ pub fn is_of_iri(c: char) -> bool
 }
 
 /// How many bytes of the text's front are of the class.
-fn width(class: Class, bytes: &[u8]) -> usize
+pub fn width(class: Class, bytes: &[u8]) -> usize
     ensures front { take result bytes.now ≡ front (is_in class) bytes.now }
     ensures after { drop result bytes.now ≡ after (is_in class) bytes.now }
     ensures within { result ≤ length bytes.now }

@@ -8,12 +8,8 @@ mod fault;
 pub mod law;
 mod lines;
 mod terminals;
-#[cfg(test)]
-mod tests;
 mod triples;
 mod writing;
-#[cfg(test)]
-mod writing_tests;
 
 pub use document::{DOCUMENT_LIMIT, read_document};
 pub use fault::DataFault;

@@ -1,18 +1,19 @@
 //! Terms and triples written as text (RDF 1.1 N-Triples, section 2).
 
-ghost use Rattle.std.specs.Prelude.{◌≡◌, ◌++◌, [], flat_map, IfOk, OnOk};
+ghost use Rattle.std.specs.Prelude.{◌≡◌, ◌++◌, ◌-◌, ◌≤◌, [], length, flat_map, IfOk, OnErr, OnOk};
 ghost use Rattle.std.specs.Str.{IsUtf8, bytes_eq};
+ghost use Rattle.nt_text.specs.Growth.{IsGrown};
 ghost use Rattle.term_core.specs.Texts.{escaped, xsd_string, kind_text, term_text, triple_text};
 
+use crate::classes::{Class, width};
 use std::alloc::Global;
-use term_core::{Memory, Term, Text, Triple};
-
-/// The datatype of plain strings (XML Schema 1.1 Datatypes, section 3.3.1), which text leaves out.
-const XSD_STRING: &str = "http://www.w3.org/2001/XMLSchema#string";
+use term_core::{Memory, Term, Text, Triple, XSD_STRING};
 
 /// One byte of a string, escaped where it must be (N-Triples, ECHAR).
+#[tactic(auto, using(crate::proofs::Growth::grown_same, crate::proofs::Growth::grown_by, crate::proofs::Growth::grown_then))]
 fn push_byte(out: &mut Vec<u8>, byte: u8) -> Result<(), Memory>
-    ensures { OnOk result (out.new.items ≡ out.old.items ++ escaped byte) }
+    ensures written { OnOk result (out.new.items ≡ out.old.items ++ escaped byte) }
+    ensures grown { IsGrown out.old.items out.new.items }
 {
     if byte == b'\\' {
         out.extend_from_slice(b"\\\\")?;
@@ -28,12 +29,45 @@ fn push_byte(out: &mut Vec<u8>, byte: u8) -> Result<(), Memory>
     Ok(())
 }
 
-/// The lexical form of a literal, escaped (N-Triples, STRING_LITERAL_QUOTE), without its quotes.
-fn push_lexical(out: &mut Vec<u8>, lexical: &[u8]) -> Result<(), Memory>
-    ensures { OnOk result (out.new.items ≡ out.old.items ++ flat_map escaped lexical.now) }
+/// The first byte, escaped where it must be. It answers what is behind.
+#[tactic(auto, using(crate::proofs::Growth::grown_same, crate::proofs::Growth::grown_by, crate::proofs::Growth::grown_then))]
+fn push_first<'a>(out: &mut Vec<u8>, left: &'a [u8]) -> Result<&'a [u8], Memory>
+    ensures written { IfOk result (λ rest. out.new.items ++ flat_map escaped rest.now
+        ≡ out.old.items ++ flat_map escaped left.now) }
+    ensures shorter { IfOk result (λ rest. length rest.now ≡ length left.now - 1) }
+    ensures grown { IsGrown out.old.items out.new.items }
 {
-    for byte in lexical {
-        push_byte(out, *byte)?;
+    match left {
+        [] => Ok(left),
+        [byte, rest @ ..] => {
+            push_byte(out, *byte)?;
+            Ok(rest)
+        }
+    }
+}
+
+/// The bytes in front of the first that must be escaped, and that one. It answers what is behind.
+#[tactic(auto, using(crate::proofs::Growth::grown_same, crate::proofs::Growth::grown_by, crate::proofs::Growth::grown_then))]
+fn push_run<'a>(out: &mut Vec<u8>, left: &'a [u8]) -> Result<&'a [u8], Memory>
+    ensures written { IfOk result (λ rest. out.new.items ++ flat_map escaped rest.now
+        ≡ out.old.items ++ flat_map escaped left.now) }
+    ensures shorter { IfOk result (λ rest. length rest.now ≤ length left.now - 1) }
+    ensures grown { IsGrown out.old.items out.new.items }
+{
+    let (run, rest) = left.split_at(width(Class::Plain, left));
+    out.extend_from_slice(run)?;
+    push_first(out, rest)
+}
+
+/// The lexical form of a literal, escaped (N-Triples, STRING_LITERAL_QUOTE), without its quotes.
+#[tactic(auto, using(crate::proofs::Growth::grown_same, crate::proofs::Growth::grown_by, crate::proofs::Growth::grown_then))]
+fn push_lexical(out: &mut Vec<u8>, lexical: &[u8]) -> Result<(), Memory>
+    ensures written { OnOk result (out.new.items ≡ out.old.items ++ flat_map escaped lexical.now) }
+    ensures grown { IsGrown out.old.items out.new.items }
+{
+    let mut left = lexical;
+    'runs: while !left.is_empty() {
+        left = push_run(out, left)?;
     }
     Ok(())
 }
@@ -46,8 +80,10 @@ fn is_plain(datatype: &Text) -> bool
 }
 
 /// A datatype behind a literal's closing quote.
+#[tactic(auto, using(crate::proofs::Growth::grown_same, crate::proofs::Growth::grown_by, crate::proofs::Growth::grown_then))]
 fn push_datatype(out: &mut Vec<u8>, datatype: &Text) -> Result<(), Memory>
-    ensures { OnOk result (out.new.items ≡ out.old.items ++ kind_text datatype.now []) }
+    ensures written { OnOk result (out.new.items ≡ out.old.items ++ kind_text datatype.now []) }
+    ensures grown { IsGrown out.old.items out.new.items }
 {
     if is_plain(datatype) {
         return Ok(());
@@ -60,8 +96,10 @@ fn push_datatype(out: &mut Vec<u8>, datatype: &Text) -> Result<(), Memory>
 
 /// What stands behind a literal's closing quote: its language tag, or else its datatype, unless
 /// that is the one of plain strings.
+#[tactic(auto, using(crate::proofs::Growth::grown_same, crate::proofs::Growth::grown_by, crate::proofs::Growth::grown_then))]
 fn push_kind(out: &mut Vec<u8>, datatype: &Text, lang: &Text) -> Result<(), Memory>
-    ensures { OnOk result (out.new.items ≡ out.old.items ++ kind_text datatype.now lang.now) }
+    ensures written { OnOk result (out.new.items ≡ out.old.items ++ kind_text datatype.now lang.now) }
+    ensures grown { IsGrown out.old.items out.new.items }
 {
     match lang.bytes() {
         [] => push_datatype(out, datatype),
@@ -74,11 +112,11 @@ fn push_kind(out: &mut Vec<u8>, datatype: &Text, lang: &Text) -> Result<(), Memo
     }
 }
 
-/// Appends a term's text: `<IRI>`, `_:label`, or `"lexical form"` with `@tag` or `^^<datatype>`. Of
-/// the bytes that N-Triples lets be escaped, only `\`, `"`, line feed and carriage return are. After
-/// an `Err` a part of the text may stand at the end of `out`.
-pub fn push_term(out: &mut Vec<u8>, term: &Term) -> Result<(), Memory>
-    ensures { OnOk result (out.new.items ≡ out.old.items ++ term_text term.now) }
+/// Appends a term's text, or a part of it where there is no room.
+#[tactic(auto, using(crate::proofs::Growth::grown_same, crate::proofs::Growth::grown_by, crate::proofs::Growth::grown_then))]
+fn add_term(out: &mut Vec<u8>, term: &Term) -> Result<(), Memory>
+    ensures written { OnOk result (out.new.items ≡ out.old.items ++ term_text term.now) }
+    ensures grown { IsGrown out.old.items out.new.items }
 {
     match term {
         Term::Iri(iri) => {
@@ -104,15 +142,34 @@ pub fn push_term(out: &mut Vec<u8>, term: &Term) -> Result<(), Memory>
     Ok(())
 }
 
-/// Appends the line of a triple: its three terms with a blank between, a blank, a dot and a line
-/// feed. After an `Err` a part of the line may stand at the end of `out`.
-pub fn push_line(
+/// Appends a term's text: `<IRI>`, `_:label`, or `"lexical form"` with `@tag` or `^^<datatype>`. Of
+/// the bytes that N-Triples lets be escaped, only `\`, `"`, line feed and carriage return are. After
+/// an `Err` `out` is as it was.
+#[tactic(auto, using(crate::proofs::Growth::front_of_grown))]
+pub fn push_term(out: &mut Vec<u8>, term: &Term) -> Result<(), Memory>
+    ensures ok { OnOk result (out.new.items ≡ out.old.items ++ term_text term.now) }
+    ensures err { OnErr result (out.new.items ≡ out.old.items) }
+{
+    let length = out.len();
+    match add_term(out, term) {
+        Ok(()) => Ok(()),
+        Err(Memory) => {
+            out.truncate(length);
+            Err(Memory)
+        }
+    }
+}
+
+/// Appends the line of a triple, or a part of it where there is no room.
+#[tactic(auto, using(crate::proofs::Growth::grown_same, crate::proofs::Growth::grown_by, crate::proofs::Growth::grown_then))]
+fn add_line(
     out: &mut Vec<u8>,
     subject: &Term,
     predicate: &Term,
     object: &Term,
 ) -> Result<(), Memory>
-    ensures { OnOk result (out.new.items ≡ out.old.items ++ triple_text (record { subject = subject.now; predicate = predicate.now; object = object.now })) }
+    ensures written { OnOk result (out.new.items ≡ out.old.items ++ triple_text (record { subject = subject.now; predicate = predicate.now; object = object.now })) }
+    ensures grown { IsGrown out.old.items out.new.items }
 {
     push_term(out, subject)?;
     out.push(b' ')?;
@@ -123,9 +180,32 @@ pub fn push_line(
     Ok(())
 }
 
+/// Appends the line of a triple: its three terms with a blank between, a blank, a dot and a line
+/// feed. After an `Err` `out` is as it was.
+#[tactic(auto, using(crate::proofs::Growth::front_of_grown))]
+pub fn push_line(
+    out: &mut Vec<u8>,
+    subject: &Term,
+    predicate: &Term,
+    object: &Term,
+) -> Result<(), Memory>
+    ensures ok { OnOk result (out.new.items ≡ out.old.items ++ triple_text (record { subject = subject.now; predicate = predicate.now; object = object.now })) }
+    ensures err { OnErr result (out.new.items ≡ out.old.items) }
+{
+    let length = out.len();
+    match add_line(out, subject, predicate, object) {
+        Ok(()) => Ok(()),
+        Err(Memory) => {
+            out.truncate(length);
+            Err(Memory)
+        }
+    }
+}
+
 /// Appends a triple's line, as `push_line` does.
 pub fn push_triple(out: &mut Vec<u8>, triple: &Triple) -> Result<(), Memory>
-    ensures { OnOk result (out.new.items ≡ out.old.items ++ triple_text triple.now) }
+    ensures ok { OnOk result (out.new.items ≡ out.old.items ++ triple_text triple.now) }
+    ensures err { OnErr result (out.new.items ≡ out.old.items) }
 {
     push_line(out, &triple.subject, &triple.predicate, &triple.object)
 }

@@ -1,9 +1,10 @@
 -- What a sink, a shelf and blocks in memory hold.
-use Rattle.std.specs.Prelude.{ℕ, List, length, Some}
+use Rattle.std.specs.Prelude.{ℕ, List, length, None, Some}
 use Rattle.sage_outside.specs.declared.calls.Calls.{Calls}
 use Rattle.sage_outside.specs.declared.blocks_in_memory.MemBlocks.{MemBlocks}
 use Rattle.sage_outside.specs.declared.blocks_in_memory.MemStored.{MemStored}
 use Rattle.sage_outside.specs.declared.blocks_in_memory.NeverBlocks.{NeverBlocks}
+use Rattle.sage_outside.specs.declared.file_blocks.FileBlocks.{FileBlocks}
 use Rattle.sage_outside.specs.declared.memory.MemSink.{MemSink}
 use Rattle.sage_outside.specs.declared.memory.MemShelf.{MemShelf}
 use Rattle.sage_outside.specs.Blocks.{Device, block_count, image_of}
@@ -63,3 +64,12 @@ never_device blocks = device_of blocks.bytes.now 0 blocks.reads
 -- the opened file with its counts
 abbrev pub stored_device : MemStored → Device
 stored_device file = device_of file.bytes.items (faults_of file.calls) file.reads
+
+-- the file of the system with its counts, whose bytes are not told
+abbrev pub file_device : {F : Type 0} → FileBlocks F → Device
+file_device file = record {
+  image = None;
+  count = block_count file.size;
+  faults = file.faults;
+  reads = file.reads;
+}

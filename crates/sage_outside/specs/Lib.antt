@@ -10,3 +10,4 @@ pub mod Door
 pub mod Calls
 pub mod Memory
 pub mod Held
+pub mod Areas

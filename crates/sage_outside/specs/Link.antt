@@ -35,12 +35,11 @@ pub record HasLinkCause {T : Type 0} (before now : ℕ) (result : Result T LinkF
   pub later : before ≤ now
   pub failed : result ≡ Err Failed → Rose before now
 
--- a reply over told data: one that they give for a quantum, a 503 reply, or a 500 reply where the
--- count of faults rose
-abbrev pub RepliesOver : (Data → ℕ → List ℕ → List ℕ → Type 0) → Option Data → Option Turn
+-- a reply over data: one that they give for a quantum, a 503 reply, or a 500 reply where the count
+-- of faults rose
+abbrev pub RepliesOver : (Data → ℕ → List ℕ → List ℕ → Type 0) → Data → Option Turn
     → List ℕ → ℕ → ℕ → List ℕ → Type 0
-RepliesOver may_reply None turn request before now reply = Unit {0}
-RepliesOver may_reply (Some data_set) turn request before now reply =
+RepliesOver may_reply data_set turn request before now reply =
     ((quantum : ℕ) × MayHave turn quantum × may_reply data_set quantum request reply)
     ⊎ IsTrue (is_unavailable reply) ⊎ (IsTrue (is_server_error reply) × Rose before now)
 

@@ -92,6 +92,14 @@ impl<'a> MemBlocks<'a> {
     {
         self.reads
     }
+
+    /// How many calls found no room. They are among the faults, and no read needs any.
+    pub fn cramped(&self) -> u64
+        ensures told { result ≡ (blocks_calls self.now).cramped }
+        ensures part { result ≤ (⟦<MemBlocks<'a> as Blocks>⟧.device self.now).faults }
+    {
+        self.calls.cramped()
+    }
 }
 
 impl<'a> Blocks for MemBlocks<'a> {
@@ -153,6 +161,7 @@ impl<'a> NeverBlocks<'a> {
 }
 
 impl<'a> Blocks for NeverBlocks<'a> {
+    ghost use Rattle.sage_outside.specs.Causes.{counted};
     ghost use Rattle.sage_outside.specs.Held.{never_device};
     ghost use Rattle.sage_outside.specs.BlockLaws.{whole_image, few_blocks};
 
@@ -168,6 +177,7 @@ impl<'a> Blocks for NeverBlocks<'a> {
         ensures failed { OnErr result (Rose (never_device self.old).faults (never_device self.new).faults) }
         ensures found { HasBlock (never_device self.old).image n block.new result }
         ensures never_fails { IsOk result }
+        ensures counts { (never_device self.new).reads ≡ counted (never_device self.old).reads }
     {
         self.reads = self.reads.saturating_add(1);
         fill(self.bytes, n, block);
@@ -211,6 +221,14 @@ impl MemStored {
         })
     }
 
+    /// How many calls found no room. They are among the faults, and no read needs any.
+    pub fn cramped(&self) -> u64
+        ensures told { result ≡ (stored_calls self.now).cramped }
+        ensures part { result ≤ (⟦<MemStored as Blocks>⟧.device self.now).faults }
+    {
+        self.calls.cramped()
+    }
+
     /// Whether a read of it failed.
     pub(crate) fn has_failed(&self) -> bool
         ensures { result ≡ nat_lt 0 (⟦<MemStored as Blocks>⟧.device self.now).faults }
@@ -221,6 +239,7 @@ impl MemStored {
 
 impl Blocks for MemStored {
     ghost use Rattle.sage_outside.specs.Calls.{Passes, FailsListed};
+    ghost use Rattle.sage_outside.specs.Causes.{counted};
     ghost use Rattle.sage_outside.specs.Held.{stored_device, stored_calls};
     ghost use Rattle.sage_outside.specs.BlockLaws.{whole_image, few_blocks};
 
@@ -237,6 +256,7 @@ impl Blocks for MemStored {
         ensures found { HasBlock (stored_device self.old).image n block.new result }
         ensures by_list { MatchResult result (λ _. Passes (stored_calls self.old) (stored_calls self.new))
             (λ _. FailsListed (stored_calls self.old) (stored_calls self.new)) }
+        ensures counts { (stored_device self.new).reads ≡ counted (stored_device self.old).reads }
     {
         self.reads = self.reads.saturating_add(1);
         if self.calls.begin() {

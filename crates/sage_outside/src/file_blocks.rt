@@ -1,6 +1,7 @@
 // The adapter over an open file of std, read by blocks. It tells nothing of content.
-ghost use Rattle.std.specs.Prelude.{◌≡◌, ◌<◌, ◌*◌, None, nat_lt, length};
-ghost use Rattle.sage_outside.specs.Blocks.{IsUnread, block_count};
+ghost use Rattle.std.specs.Prelude.{◌≡◌, ◌<◌, ◌*◌, OnErr, nat_lt, length};
+ghost use Rattle.sage_outside.specs.Causes.{Rose, counted};
+ghost use Rattle.sage_outside.specs.Blocks.{IsUnread, HasRead, HasBlock, block_count};
 
 use crate::blocks_in_memory::block_count;
 use crate::{Blocks, Failed};
@@ -56,14 +57,21 @@ fn fill_from<F: Read + Seek>(file: &mut F, at: u64, block: &mut [u8; 4096]) -> i
 
 impl<F: Read + Seek> Blocks for FileBlocks<F> {
     ghost use Rattle.sage_outside.specs.BlockLaws.{untold, few_blocks};
+    ghost use Rattle.sage_outside.specs.Held.{file_device};
 
-    ghost device = { λ b. record { image = None; count = block_count b.size; faults = b.faults; reads = b.reads } };
+    ghost device = { λ b. file_device b };
 
     fn blocks(&self) -> u32 {
         block_count(self.size)
     }
 
-    fn read_block(&mut self, n: u32, block: &mut [u8; 4096]) -> Result<(), Failed> {
+    fn read_block(&mut self, n: u32, block: &mut [u8; 4096]) -> Result<(), Failed>
+        requires { n < (file_device self.old).count }
+        ensures read { HasRead (file_device self.old) (file_device self.new) 1 }
+        ensures failed { OnErr result (Rose (file_device self.old).faults (file_device self.new).faults) }
+        ensures found { HasBlock (file_device self.old).image n block.new result }
+        ensures counts { (file_device self.new).reads ≡ counted (file_device self.old).reads }
+    {
         self.reads = self.reads.saturating_add(1);
         match fill_from(&mut self.file, 4096 * n as u64, block) {
             Ok(()) => Ok(()),

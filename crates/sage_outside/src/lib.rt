@@ -1,8 +1,7 @@
 //! What the program reaches outside, as traits with counts of faults, with forms in memory and over std.
 #![tactic(auto)]
 
-#[cfg(test)]
-mod block_tests;
+mod area;
 mod blocks;
 mod blocks_in_memory;
 mod calls;
@@ -11,6 +10,7 @@ mod door;
 mod fault;
 mod file_blocks;
 mod files_in_memory;
+pub mod law;
 mod link;
 mod memory;
 mod nothing;
@@ -19,6 +19,7 @@ mod reply;
 mod shelf;
 mod sink;
 
+pub use area::{Area, block_of, read_area};
 pub use blocks::Blocks;
 pub use blocks_in_memory::{MemBlocks, MemStored, NeverBlocks};
 pub use conn::Conn;

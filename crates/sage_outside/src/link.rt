@@ -1,5 +1,5 @@
 // Exchanges with servers.
-ghost use Rattle.std.specs.Prelude.{◌≡◌, ℕ, List, Option, IfOk};
+ghost use Rattle.std.specs.Prelude.{◌≡◌, ◌↔◌, ℕ, List, Option, IfOk};
 ghost use Rattle.std.specs.Option.{option_map};
 ghost use Rattle.sage_outside.specs.Link.{Data, Turn, HasLinkCause, RepliesOver, CountsScarce, Asks, next_turn, streak_after};
 
@@ -25,8 +25,9 @@ pub trait Link {
     /// number of steps. Whoever speaks of a link's content names its own relation here.
     ghost may_reply: { Data → ℕ → List ℕ → List ℕ → Type 0 };
 
-    /// The data behind a host and a port, where the link tells. No call changes them.
-    ghost told: { Self → List ℕ → ℕ → Option Data };
+    /// That these data are behind a host and a port, as far as the link tells. It is a relation, so
+    /// that a link over several servers needs no way to find their data. No call changes it.
+    ghost holds: { Self → List ℕ → ℕ → Data → Type 0 };
 
     /// The quanta of the exchanges and the place of the next, where the link tells.
     ghost turn: { Self → Option Turn };
@@ -46,8 +47,8 @@ pub trait Link {
     /// Sends the request to the server at that host and port, and answers its whole reply, for
     /// which it takes memory. It may wait for the server.
     ///
-    /// `Failed` comes only where a fault was counted. Over told data a reply is one that they may
-    /// give, or a 503 reply, or, where a fault was counted, a 500 reply.
+    /// `Failed` comes only where a fault was counted. Over data that it holds a reply is one that they
+    /// may give, or a 503 reply, or, where a fault was counted, a 500 reply.
     fn exchange(
         &mut self,
         alloc: Global,
@@ -56,9 +57,11 @@ pub trait Link {
         request: &[u8],
     ) -> Result<Vec<u8>, LinkFault>
         ensures cause { HasLinkCause (faults self.old) (faults self.new) result }
-        ensures reply { IfOk result (λ reply. RepliesOver may_reply (told self.old host.now port)
-            (turn self.old) request.now (faults self.old) (faults self.new) reply.items) }
-        ensures same { told self.new ≡ told self.old }
+        ensures reply { IfOk result (λ reply. (data_set : Data) → holds self.old host.now port data_set
+            → RepliesOver may_reply data_set (turn self.old) request.now
+            (faults self.old) (faults self.new) reply.items) }
+        ensures same { (host : List ℕ) (port : ℕ) (data_set : Data)
+            → holds self.old host port data_set ↔ holds self.new host port data_set }
         ensures turn { turn self.new ≡ option_map next_turn (turn self.old) }
         ensures streak { streak self.new ≡ option_map (streak_after result) (streak self.old) }
         ensures scarce { CountsScarce (scarce self.old) (scarce self.new) result }

@@ -49,7 +49,7 @@ impl NoLink {
 impl Link for NoLink {
     ghost may_reply = { λ _ _ _ _. ⊥ };
 
-    ghost told = { λ _ _ _. None };
+    ghost holds = { λ _ _ _ _. ⊥ };
 
     ghost turn = { λ _. None };
 
@@ -91,12 +91,18 @@ impl Conn for NoConn {
 
     ghost faults = { λ conn. conn.faults };
 
-    fn take(&mut self, buf: &mut [u8]) -> Result<usize, Failed> {
+    fn take(&mut self, buf: &mut [u8]) -> Result<usize, Failed>
+        ensures fails { IsErr result }
+        ensures cause { HasFaultCause self.old.faults self.new.faults result }
+    {
         self.faults = self.faults.saturating_add(1);
-        Err(Failed)
+        Err::<usize, _>(Failed)
     }
 
-    fn put(&mut self, piece: &[u8]) -> Result<(), Failed> {
+    fn put(&mut self, piece: &[u8]) -> Result<(), Failed>
+        ensures fails { IsErr result }
+        ensures cause { HasFaultCause self.old.faults self.new.faults result }
+    {
         self.faults = self.faults.saturating_add(1);
         Err(Failed)
     }
@@ -161,24 +167,5 @@ impl Door for NoDoor {
     fn give_back(&mut self, conn: NoConn) {
         let NoConn { .. } = conn;
         self.out = self.out.saturating_sub(1);
-    }
-}
-
-#[cfg(test)]
-mod tests {
-    use super::*;
-
-    #[test]
-    fn there_is_nothing(rt: HostRuntime) {
-        assert_eq!(rt; NeverSink::new().put(b"lost"), Ok(()));
-        let mut link = NoLink::new();
-        assert_eq!(rt;
-            link.exchange(rt.alloc(), "localhost", 80, b"GET / HTTP/1.1")
-                .err(),
-            Some(LinkFault::Failed)
-        );
-        let mut door = NoDoor::new();
-        assert_eq!(rt; door.listen("localhost", 80), Err(Failed));
-        assert!(rt; door.next_conn().is_err());
     }
 }

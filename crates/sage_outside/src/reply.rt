@@ -17,24 +17,3 @@ pub fn tells_unavailable(reply: &[u8]) -> bool
 {
     reply.starts_with(b"HTTP/1.1 503") || reply.starts_with(b"HTTP/1.0 503")
 }
-
-#[cfg(test)]
-mod tests {
-    use super::*;
-
-    #[test]
-    fn status_lines(rt: HostRuntime) {
-        let cases: [(&[u8], bool, bool); 6] = [
-            (b"HTTP/1.1 500 Internal Server Error\r\n\r\n", true, false),
-            (b"HTTP/1.0 500\r\n\r\n", true, false),
-            (b"HTTP/1.1 503 Service Unavailable\r\n\r\n", false, true),
-            (b"HTTP/1.0 503 \r\n\r\n", false, true),
-            (b"HTTP/1.1 200 OK\r\n\r\nHTTP/1.1 500", false, false),
-            (b"HTTP/1.1 50", false, false),
-        ];
-        for (reply, error, unavailable) in cases {
-            assert_eq!(rt; tells_server_error(reply), error);
-            assert_eq!(rt; tells_unavailable(reply), unavailable);
-        }
-    }
-}

@@ -2,7 +2,8 @@
 use Rattle.std.proofs.Common.{◌≡◌, ◌≢◌, ℕ, zero, suc, ◌+◌, ◌-◌, ◌*◌, ◌/◌, ◌%◌, ◌<◌, ◌≤◌, refl, sym, ap, ◌∙◌, arith, Bool, true, false, ◌⊎◌, List, [], ◌∷◌, ◌++◌, length, get_or, take, drop, length-take, drop-cons, take-suc, inl, inr}
 use Rattle.std.proofs.lemmas.Grind.{common_steps}
 use Rattle.std.specs.Prelude.{Option, None, ◌&&◌}
-use Rattle.term_core.specs.Numbers.{is_digit, are_digits, value_after, trimmed, is_empty}
+use Rattle.term_core.specs.Characters.{is_digit}
+use Rattle.term_core.specs.Numbers.{are_digits, value_after, trimmed, is_empty}
 use Rattle.xsd_num.specs.Values.{below}
 use Rattle.xsd_num.proofs.Trims.{trims_zero, trims_no_place, trims_no_digit}
 

@@ -2,7 +2,8 @@
 use Rattle.std.proofs.Common.{◌≡◌, ℕ, refl, sym, ap, ◌∙◌, arith, Bool, true, false, cond, ◌==◌, ◌⊎◌, inl, inr, List, [], ◌∷◌, ◌++◌}
 use Rattle.std.proofs.lemmas.Grind.{common_steps}
 use Rattle.std.specs.Prelude.{◌||◌, not}
-use Rattle.term_core.specs.Numbers.{is_digit, are_digits, is_empty, behind_sign, before_point, behind_point, is_integer, is_decimal, IsSign, IsInteger, IsDecimal, IsPointed}
+use Rattle.term_core.specs.Characters.{is_digit}
+use Rattle.term_core.specs.Numbers.{are_digits, is_empty, behind_sign, before_point, behind_point, is_integer, is_decimal, IsSign, IsIntegerForm, IsDecimalForm, IsPointedForm}
 use Rattle.xsd_num.proofs.Digits.{both_true, digits_join, digits_apart}
 use Rattle.xsd_num.proofs.Readback.{no_sign, at_point, sign_free, point_at}
 
@@ -38,7 +39,7 @@ empty_not : (b : Bool) → not b ≡ true → b ≡ false
 empty_not true e = cc
 empty_not false e = refl
 
-pub integer_sound : (text : List ℕ) → is_integer text ≡ true → IsInteger text
+pub integer_sound : (text : List ℕ) → is_integer text ≡ true → IsIntegerForm text
 integer_sound text e =
     let p : (are_digits (behind_sign text) ≡ true) × (not (is_empty (behind_sign text)) ≡ true) = both_true (are_digits (behind_sign text)) (not (is_empty (behind_sign text))) e in
     record {
@@ -56,7 +57,7 @@ behind_is sign body (inl e) free = rw e free
 behind_is sign body (inr (inl e)) free = rw e refl
 behind_is sign body (inr (inr e)) free = rw e refl
 
-pub integer_complete : (text : List ℕ) → IsInteger text → is_integer text ≡ true
+pub integer_complete : (text : List ℕ) → IsIntegerForm text → is_integer text ≡ true
 integer_complete text i =
     let behind : behind_sign text ≡ i.digits = ap behind_sign i.parts ∙ behind_is i.sign i.digits i.is_sign (sign_free i.digits i.are_digits i.some).1 in
     rw (behind, i.are_digits, i.some) refl
@@ -66,7 +67,7 @@ point_of : List ℕ → List ℕ
 point_of [] = []
 point_of (c ∷ cs) = cond (c == 46) (46 ∷ []) (point_of cs)
 
-pointed_at : (b : Bool) (cs point rest : List ℕ) → IsPointed point rest → IsPointed (cond b (46 ∷ []) point) (cond b cs rest)
+pointed_at : (b : Bool) (cs point rest : List ℕ) → IsPointedForm point rest → IsPointedForm (cond b (46 ∷ []) point) (cond b cs rest)
 pointed_at true cs point rest h = inr refl
 pointed_at false cs point rest h = h
 
@@ -78,7 +79,7 @@ parted_at : (b : Bool) (c : ℕ) (cs front point rest : List ℕ) → b ≡ (c =
 parted_at true c cs front point rest e h = ap (λ d. d ∷ cs) (is_point c (sym e))
 parted_at false c cs front point rest e h = ap (λ ds. c ∷ ds) h
 
-point_cut : (body : List ℕ) → IsPointed (point_of body) (behind_point body) × (body ≡ before_point body ++ (point_of body ++ behind_point body))
+point_cut : (body : List ℕ) → IsPointedForm (point_of body) (behind_point body) × (body ≡ before_point body ++ (point_of body ++ behind_point body))
 unfolding point_of
 point_cut [] = (inl (refl, refl), refl)
 point_cut (c ∷ cs) = (
@@ -86,13 +87,13 @@ point_cut (c ∷ cs) = (
   parted_at (c == 46) c cs (before_point cs) (point_of cs) (behind_point cs) refl (point_cut cs).1,
 )
 
-pub decimal_sound : (text : List ℕ) → is_decimal text ≡ true → IsDecimal text
+pub decimal_sound : (text : List ℕ) → is_decimal text ≡ true → IsDecimalForm text
 decimal_sound text e =
     let w : List ℕ = before_point (behind_sign text) in
     let f : List ℕ = behind_point (behind_sign text) in
     let p : (are_digits (w ++ f) ≡ true) × (not (is_empty (w ++ f)) ≡ true) = both_true (are_digits (w ++ f)) (not (is_empty (w ++ f))) e in
     let d : (are_digits w ≡ true) × (are_digits f ≡ true) = digits_apart w f p.0 in
-    let cut : IsPointed (point_of (behind_sign text)) f × (behind_sign text ≡ w ++ (point_of (behind_sign text) ++ f)) = point_cut (behind_sign text) in
+    let cut : IsPointedForm (point_of (behind_sign text)) f × (behind_sign text ≡ w ++ (point_of (behind_sign text) ++ f)) = point_cut (behind_sign text) in
     record {
       sign = sign_of text;
       whole = w;
@@ -124,7 +125,7 @@ append_none : (xs : List ℕ) → xs ++ [] ≡ xs
 append_none [] = refl
 append_none (x ∷ xs) = ap (λ ys. x ∷ ys) (append_none xs)
 
-decimal_parted : (text sign w point f : List ℕ) → IsSign sign → are_digits w ≡ true → are_digits f ≡ true → IsPointed point f
+decimal_parted : (text sign w point f : List ℕ) → IsSign sign → are_digits w ≡ true → are_digits f ≡ true → IsPointedForm point f
     → is_empty (w ++ f) ≡ false → text ≡ sign ++ (w ++ (point ++ f)) → is_decimal text ≡ true
 decimal_parted text sign w point f s d g (inr p) e t =
     let body : text ≡ sign ++ (w ++ 46 ∷ f) = t ∙ ap (λ q. sign ++ (w ++ (q ++ f))) p in
@@ -134,5 +135,5 @@ decimal_parted text sign w point f s d g (inl p) e t =
     let some : is_empty w ≡ false = sym (ap is_empty (append_none w)) ∙ sym (ap (λ q. is_empty (w ++ q)) p.1) ∙ e in
     decimal_from text w w f (ap behind_sign body ∙ behind_is sign w s (sign_free w d some).1) (no_point w d).0 ((no_point w d).1 ∙ sym p.1) d g e
 
-pub decimal_complete : (text : List ℕ) → IsDecimal text → is_decimal text ≡ true
+pub decimal_complete : (text : List ℕ) → IsDecimalForm text → is_decimal text ≡ true
 decimal_complete text i = decimal_parted text i.sign i.whole i.point i.fraction i.is_sign i.whole_digits i.fraction_digits i.is_pointed i.some i.parts

@@ -9,3 +9,4 @@ pub mod Scales
 pub mod Readback
 pub mod Sums
 pub mod Forms
+pub mod Wide

@@ -7,7 +7,8 @@ use Rattle.std.proofs.lemmas.Nat.{div-add-mod'}
 use Rattle.std.specs.Fmt.{decimal, signed_decimal}
 use Rattle.std.specs.Int.{is_negative}
 use Rattle.std.specs.Prelude.{Option, Some, unsigned_abs, ◌&&◌, ◌||◌, not, nat_le}
-use Rattle.term_core.specs.Numbers.{Number, Whole, Decimal, is_digit, are_digits, value_after, is_empty, is_minus, behind_sign, before_point, behind_point, last_digits, places, sign_text, lexical, datatype, trimmed, signed, least_decimal, is_integer, integer_value, is_held, is_kept, bounds_of, read, read_decimal, numerator, xsd_integer}
+use Rattle.term_core.specs.Characters.{is_digit}
+use Rattle.term_core.specs.Numbers.{Number, Whole, Decimal, are_digits, value_after, is_empty, is_minus, behind_sign, before_point, behind_point, last_digits, places, sign_text, lexical, datatype, trimmed, signed, least_decimal, is_integer, integer_value, is_held, is_kept, bounds_of, read, read_decimal, numerator, xsd_integer}
 use Rattle.xsd_num.proofs.Digits.{value_join, digits_join, both_true}
 use Rattle.xsd_num.proofs.Places.{natural_sign}
 use Rattle.xsd_num.proofs.Trims.{trims_no_digit}

@@ -29,6 +29,7 @@ fn common_scale(a: Num, b: Num) -> u8
     scale(a).max(scale(b))
 }
 
+/// `a + b` at a scale that is no less than either's own, if it and both numerators there have 128 bits.
 fn sum_at(a: Num, b: Num, to: u8) -> Option<Num>
     requires a_scale { scale (number_of a) ≤ to }
     requires b_scale { scale (number_of b) ≤ to }
@@ -42,6 +43,7 @@ fn sum_at(a: Num, b: Num, to: u8) -> Option<Num>
     made(are_whole(a, b), m, to)
 }
 
+/// `a - b` at a scale that is no less than either's own, if it and both numerators there have 128 bits.
 fn difference_at(a: Num, b: Num, to: u8) -> Option<Num>
     requires a_scale { scale (number_of a) ≤ to }
     requires b_scale { scale (number_of b) ≤ to }
@@ -55,6 +57,7 @@ fn difference_at(a: Num, b: Num, to: u8) -> Option<Num>
     made(are_whole(a, b), m, to)
 }
 
+/// `a * b`, if the product of the numerators has 128 bits and at most 18 places at its least scale.
 fn product_of(a: Num, b: Num) -> Option<Num>
     requires a_kept { IsTrue (is_kept (number_of a)) }
     requires b_kept { IsTrue (is_kept (number_of b)) }
@@ -100,6 +103,7 @@ pub fn mul(a: Num, b: Num) -> Result<Num, NumFault>
     product_of(a, b).ok_or(NumFault::Range)
 }
 
+/// `a / b` by both numerators at a scale that is no less than either's own, cut at 18 places.
 fn quotient_at(a: Num, b: Num, to: u8) -> Option<Num>
     requires a_scale { scale (number_of a) ≤ to }
     requires b_scale { scale (number_of b) ≤ to }

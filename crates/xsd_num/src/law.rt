@@ -6,7 +6,7 @@ ghost use Rattle.std.specs.Ordering.{int_cmp};
 ghost use Rattle.std.specs.declared.cmp.Ordering.TheVariants.{Equal};
 ghost use Rattle.term_core.specs.Numbers.{Number, numerator, scale, at_scale, is_kept, is_held};
 ghost use Rattle.term_core.specs.Numbers.{compared, signed, least_decimal, sum, difference, product, quotient};
-ghost use Rattle.term_core.specs.Numbers.{read, lexical, datatype, is_integer, is_decimal, IsInteger, IsDecimal};
+ghost use Rattle.term_core.specs.Numbers.{read, lexical, datatype, is_integer, is_decimal, IsIntegerForm, IsDecimalForm};
 
 /// The order of numbers is total, it is that of their values, and those alone tie whose values are
 /// equal: `m * 10^-s` and `n * 10^-t` are in the order of `m * 10^t` and `n * 10^s`.
@@ -27,8 +27,8 @@ pub fn literals_are_read_back()
 /// The tests of lexical forms hold exactly of the texts of the grammar (XSD 1.1 part 2, sections
 /// 3.3.3.1 and 3.4.13.1).
 pub fn forms_are_of_the_grammar()
-    ensures integers { (text : List ℕ) → (is_integer text ≡ true) ↔ IsInteger text }
-    ensures decimals { (text : List ℕ) → (is_decimal text ≡ true) ↔ IsDecimal text }
+    ensures integers { (text : List ℕ) → (is_integer text ≡ true) ↔ IsIntegerForm text }
+    ensures decimals { (text : List ℕ) → (is_decimal text ≡ true) ↔ IsDecimalForm text }
 {}
 
 /// A decimal at its least scale has the value of the numerator and scale that it is made of.

@@ -1,13 +1,15 @@
 //! Lexical forms and datatypes (XSD 1.1 part 2, sections 3.3.3 and 3.4.13 to 3.4.25).
 
 ghost use Rattle.std.specs.Prelude.{◌≡◌, ◌&&◌, ◌++◌, not, ◌+◌, ◌-◌, ◌*◌, ℕ, length, true, Some, IsTrue, IfSome};
-ghost use Rattle.term_core.specs.Numbers.{are_digits, is_digit, value_after, is_minus, behind_sign, before_point, behind_point, is_empty};
-ghost use Rattle.term_core.specs.Numbers.{trimmed, least_decimal, is_kept, bounds_of, is_from, is_up_to, is_within};
+ghost use Rattle.term_core.specs.Characters.{is_digit};
+ghost use Rattle.term_core.specs.Numbers.{are_digits, value_after, is_minus, behind_sign, before_point, behind_point, is_empty};
+ghost use Rattle.term_core.specs.Numbers.{trimmed, least_decimal, is_kept, bounds_of, is_from, is_up_to, is_within, is_decimal, signed, digits_value};
 ghost use Rattle.term_core.specs.Numbers as numbers;
-ghost use Rattle.xsd_num.specs.Values.{number_of, found, below};
+ghost use Rattle.xsd_num.specs.Literals as literals;
+ghost use Rattle.xsd_num.specs.Values.{number_of, found, held, below, form_in, is_open, IsKeptForm, AreHeld};
 
-use crate::Num;
 use crate::exact::{held_decimal, signed};
+use crate::{Num, NumForm};
 
 /// A type's least and greatest value, where there is one.
 type Bounds = (Option<i128>, Option<i128>);
@@ -130,6 +132,27 @@ fn read_decimal(text: &[u8]) -> Option<Num>
     }
 }
 
+/// Whether a text is of the grammar of decimals.
+fn is_decimal(text: &[u8]) -> bool
+    ensures { result ≡ is_decimal text.now }
+{
+    let (_, body) = split_sign(text);
+    let (whole, fraction) = split_point(body);
+    are_decimal(whole, fraction)
+}
+
+/// A text as an xsd:decimal.
+fn decimal_form(text: &[u8]) -> NumForm
+    ensures exact { form_in result ≡ literals.decimal_form text.now }
+    ensures kept { IsKeptForm result }
+{
+    match read_decimal(text) {
+        Some(number) => NumForm::Exact(number),
+        None if is_decimal(text) => NumForm::Wide,
+        None => NumForm::Outside,
+    }
+}
+
 /// Whether a number is no less than the least value and no greater than the greatest.
 fn is_within(bounds: Bounds, m: i128) -> bool
     ensures { result ≡ is_within bounds m }
@@ -146,20 +169,38 @@ fn is_within(bounds: Bounds, m: i128) -> bool
     is_from && is_up_to
 }
 
-/// The integer of a text, if it is within a type's bounds and has 128 bits.
-fn read_integer(bounds: Bounds, text: &[u8]) -> Option<Num>
-    ensures exact { found result ≡ numbers.read_integer (Some bounds) text.now }
-    ensures kept { IfSome result (λ n. IsTrue (is_kept (number_of n))) }
+/// Whether a range has no end below, or none above.
+fn is_open(bounds: Bounds, below: bool) -> bool
+    ensures { result ≡ is_open bounds below }
+{
+    let (low, high) = bounds;
+    if below { low.is_none() } else { high.is_none() }
+}
+
+/// The integer of a sign and digits, if it has 128 bits.
+fn integer_of(minus: bool, digits: &[u8]) -> Option<i128>
+    requires { are_digits digits.now ≡ true }
+    ensures { result ≡ held (signed minus (digits_value digits.now)) }
+{
+    signed(minus, value_after(0, digits)?)
+}
+
+/// A text as an integer of a type of that range. What is past 128 bits is within it exactly where
+/// the range has no end on that side.
+#[tactic(auto, using(crate::proofs::Wide::past_is))]
+fn integer_form(bounds: Bounds, text: &[u8]) -> NumForm
+    requires { AreHeld bounds }
+    ensures exact { form_in result ≡ literals.integer_form (Some bounds) text.now }
+    ensures kept { IsKeptForm result }
 {
     let (minus, digits) = split_sign(text);
     if digits.is_empty() || !are_digits(digits) {
-        return None;
+        return NumForm::Outside;
     }
-    let m = signed(minus, value_after(0, digits)?)?;
-    if is_within(bounds, m) {
-        Some(Num::Whole(m))
-    } else {
-        None
+    match integer_of(minus, digits) {
+        Some(m) if is_within(bounds, m) => NumForm::Exact(Num::Whole(m)),
+        None if is_open(bounds, minus) => NumForm::Wide,
+        _ => NumForm::Outside,
     }
 }
 
@@ -167,7 +208,8 @@ fn read_integer(bounds: Bounds, text: &[u8]) -> Option<Num>
 /// sections 3.4.13 to 3.4.25).
 #[tactic(auto, unfolding(term_core::specs::Numbers::bounds_of))]
 fn bounds_of(datatype: &[u8]) -> Option<Bounds>
-    ensures { result ≡ bounds_of datatype.now }
+    ensures exact { result ≡ bounds_of datatype.now }
+    ensures held { IfSome result AreHeld }
 {
     if datatype == b"http://www.w3.org/2001/XMLSchema#integer".as_slice() {
         Some((None, None))
@@ -200,6 +242,32 @@ fn bounds_of(datatype: &[u8]) -> Option<Bounds>
     }
 }
 
+/// What a lexical form and the IRI of a datatype are as a number. The datatypes of numbers are
+/// xsd:decimal, xsd:integer and the twelve types derived from it. Blanks are not dropped.
+pub fn form_of(lexical: &[u8], datatype: &[u8]) -> NumForm
+    ensures exact { form_in result ≡ literals.form_of lexical.now datatype.now }
+    ensures kept { IsKeptForm result }
+{
+    if datatype == b"http://www.w3.org/2001/XMLSchema#decimal".as_slice() {
+        return decimal_form(lexical);
+    }
+    match bounds_of(datatype) {
+        Some(bounds) => integer_form(bounds, lexical),
+        None => NumForm::Other,
+    }
+}
+
+/// The number, if there is one.
+fn number_in(form: NumForm) -> Option<Num>
+    ensures exact { found result ≡ literals.number_in (form_in form) }
+    ensures kept { IsKeptForm form → IfSome result (λ n. IsTrue (is_kept (number_of n))) }
+{
+    match form {
+        NumForm::Exact(number) => Some(number),
+        NumForm::Wide | NumForm::Outside | NumForm::Other => None,
+    }
+}
+
 /// The number of a lexical form and the IRI of a datatype. There is one exactly where the datatype
 /// is xsd:decimal, xsd:integer or one of the twelve derived types, the text is of its grammar
 /// (blanks are not dropped) and within its range, and the number is within 128 bits and 18 places.
@@ -207,9 +275,5 @@ pub fn read(lexical: &[u8], datatype: &[u8]) -> Option<Num>
     ensures exact { found result ≡ numbers.read lexical.now datatype.now }
     ensures kept { IfSome result (λ n. IsTrue (is_kept (number_of n))) }
 {
-    if datatype == b"http://www.w3.org/2001/XMLSchema#decimal".as_slice() {
-        read_decimal(lexical)
-    } else {
-        read_integer(bounds_of(datatype)?, lexical)
-    }
+    number_in(form_of(lexical, datatype))
 }

@@ -16,6 +16,19 @@ pub enum Num {
     Decimal { m: i128, s: u8 },
 }
 
+/// What a lexical form and a datatype are as a number.
+#[derive(Clone, Copy, Debug, PartialEq, Eq)]
+pub enum NumForm {
+    /// This number.
+    Exact(Num),
+    /// A value of the datatype that is past 128 bits or 18 places.
+    Wide,
+    /// The datatype is one of numbers, and the lexical form is outside its grammar or range.
+    Outside,
+    /// The datatype is none of numbers.
+    Other,
+}
+
 /// Why an operation has no number.
 #[derive(Clone, Copy, Debug, PartialEq, Eq)]
 pub enum NumFault {

@@ -1,6 +1,6 @@
 //! Lines, and what the grammar says of each.
 
-use crate::{DataFault, read_document};
+use nt_text::{DataFault, read_document};
 use std::alloc::{AllocError, Global};
 use std::test::Fail;
 use term_core::{Term, Triple};
@@ -269,7 +269,7 @@ fn has_shape(alloc: Global, line: &str, shape: &str) -> bool {
 #[test]
 fn reads_lines_of_the_grammar(rt: HostRuntime) {
     let alloc = rt.alloc();
-    for (line, shape) in GOOD {
+    for &(line, shape) in GOOD.as_slice() {
         assert_eq!(rt; (line, has_shape(alloc, line, shape)), (line, true));
     }
 }
@@ -282,91 +282,87 @@ fn fault_of(alloc: Global, document: &[u8]) -> Option<DataFault> {
     }
 }
 
+/// A document whose third line is this one.
+fn with_line(alloc: Global, line: &str) -> Result<Vec<u8>, AllocError> {
+    let mut document = Vec::new(alloc);
+    document.extend_from_slice(b"# a comment\n_:a <a:p> _:b .\r\n")?;
+    document.extend_from_slice(line.as_bytes())?;
+    document.extend_from_slice(b"\n_:a <a:p> .\n")?;
+    Ok(document)
+}
+
 #[test]
 fn refuses_other_lines(rt: HostRuntime) -> Result<(), Fail> {
     let alloc = rt.alloc();
-    for line in BAD {
-        let mut document = Vec::new(alloc);
-        document.extend_from_slice(b"# a comment\n_:a <a:p> _:b .\r\n")?;
-        document.extend_from_slice(line.as_bytes())?;
-        document.extend_from_slice(b"\n_:a <a:p> .\n")?;
+    for &line in BAD.as_slice() {
+        let document = with_line(alloc, line)?;
         let fault = Some(DataFault::BadLine { line: 3 });
         assert_eq!(rt; (line, fault_of(alloc, &document)), (line, fault));
     }
     Ok(())
 }
 
-#[test]
-fn counts_lines(rt: HostRuntime) {
-    let alloc = rt.alloc();
-    assert_eq!(rt; fault_of(alloc, b""), None);
-    assert_eq!(rt; fault_of(alloc, b" \t\r\n\n\r  # a comment\n"), None);
-    assert_eq!(rt; fault_of(alloc, b"x"), Some(DataFault::BadLine { line: 1 }));
-    assert_eq!(rt;
-        fault_of(alloc, b"\r\r\nx"),
-        Some(DataFault::BadLine { line: 3 })
-    );
-    assert_eq!(rt;
-        fault_of(alloc, b"\n\rx"),
-        Some(DataFault::BadLine { line: 3 })
-    );
-    assert_eq!(rt;
-        fault_of(alloc, b"<a:s>\n<a:p><a:o>."),
-        Some(DataFault::BadLine { line: 1 })
-    );
-    assert_eq!(rt;
-        fault_of(alloc, b"_:a <a:p> \"x\n\" ."),
-        Some(DataFault::BadLine { line: 1 })
-    );
-}
+/// Documents, and why they are refused: the number of the line, or the first byte that is no text.
+const FAULTS: [(&[u8], Option<DataFault>); 10] = [
+    (b"", None),
+    (b" \t\r\n\n\r  # a comment\n", None),
+    (b"x", Some(DataFault::BadLine { line: 1 })),
+    (b"\r\r\nx", Some(DataFault::BadLine { line: 3 })),
+    (b"\n\rx", Some(DataFault::BadLine { line: 3 })),
+    (b"<a:s>\n<a:p><a:o>.", Some(DataFault::BadLine { line: 1 })),
+    (b"_:a <a:p> \"x\n\" .", Some(DataFault::BadLine { line: 1 })),
+    (b"x\n\xff", Some(DataFault::NotUtf8 { at: 2 })),
+    (b"\xc3", Some(DataFault::NotUtf8 { at: 0 })),
+    (
+        b"# \xc3\xa9\xed\xa0\x80",
+        Some(DataFault::NotUtf8 { at: 4 }),
+    ),
+];
 
 #[test]
-fn names_the_first_byte_that_is_no_text(rt: HostRuntime) {
-    let alloc = rt.alloc();
-    assert_eq!(rt;
-        fault_of(alloc, b"x\n\xff"),
-        Some(DataFault::NotUtf8 { at: 2 })
-    );
-    assert_eq!(rt;
-        fault_of(alloc, b"\xc3"),
-        Some(DataFault::NotUtf8 { at: 0 })
-    );
-    assert_eq!(rt;
-        fault_of(alloc, b"# \xc3\xa9\xed\xa0\x80"),
-        Some(DataFault::NotUtf8 { at: 4 })
-    );
+fn counts_lines_and_names_the_first_byte_that_is_no_text(rt: HostRuntime) {
+    for &(document, fault) in FAULTS.as_slice() {
+        assert_eq!(rt; fault_of(rt.alloc(), document), fault);
+    }
+}
+
+/// Adds a byte so many times.
+fn push_times(out: &mut Vec<u8>, byte: u8, times: usize) -> Result<(), AllocError> {
+    for _ in 0..times {
+        out.push(byte)?;
+    }
+    Ok(())
+}
+
+/// Adds the subject and the predicate of such a document.
+fn push_subject(out: &mut Vec<u8>, subject: usize) -> Result<(), AllocError> {
+    out.extend_from_slice(b"#\n<a:")?;
+    push_times(out, b's', subject.saturating_sub(2))?;
+    out.extend_from_slice(b"> <a:p> \"")
 }
 
 /// A document with one triple behind a comment, whose subject has this many bytes and whose object
 /// this many more than the datatype of a string.
 fn long_document(alloc: Global, subject: usize, lexical: usize) -> Result<Vec<u8>, AllocError> {
     let mut document = Vec::new(alloc);
-    document.extend_from_slice(b"#\n<a:")?;
-    for _ in 2..subject {
-        document.push(b's')?;
-    }
-    document.extend_from_slice(b"> <a:p> \"")?;
-    for _ in 0..lexical {
-        document.push(b'o')?;
-    }
+    push_subject(&mut document, subject)?;
+    push_times(&mut document, b'o', lexical)?;
     document.extend_from_slice(b"\" .")?;
     Ok(document)
 }
 
+/// Lengths of the subject and of the object's lexical form, and why the document is refused.
+const LONG: [(usize, usize, Option<DataFault>); 3] = [
+    (262_144, 262_105, None),
+    (262_145, 0, Some(DataFault::TermTooLong { line: 2 })),
+    (2, 262_106, Some(DataFault::TermTooLong { line: 2 })),
+];
+
 #[test]
 fn keeps_the_limit_of_a_term(rt: HostRuntime) -> Result<(), Fail> {
-    let alloc = rt.alloc();
-    let longest = long_document(alloc, 262_144, 262_105)?;
-    assert_eq!(rt; fault_of(alloc, &longest), None);
-    let subject = long_document(alloc, 262_145, 0)?;
-    assert_eq!(rt;
-        fault_of(alloc, &subject),
-        Some(DataFault::TermTooLong { line: 2 })
-    );
-    let object = long_document(alloc, 2, 262_106)?;
-    assert_eq!(rt;
-        fault_of(alloc, &object),
-        Some(DataFault::TermTooLong { line: 2 })
-    );
+    for &(subject, lexical, fault) in LONG.as_slice() {
+        let document = long_document(rt.alloc(), subject, lexical)?;
+        assert_eq!(rt; fault_of(rt.alloc(), &document), fault);
+    }
     Ok(())
 }

@@ -1,9 +1,9 @@
 #!/usr/bin/env python3
-"""Writes ../src/cases.rt: cases of every operation, each with the answer that the rules give.
+"""Writes ../src/number_cases.rt: cases of every operation, each with the answer that the rules give.
 
 The rules are computed here anew with Python's integers and regular expressions, from XSD 1.1 part 2
 (sections 3.3.3 and 3.4.13 to 3.4.25) and the limits of the crate: 128 bits and 18 places.
-Run it in this folder: python3 exact_numbers.py > ../src/cases.rt
+Run it in this folder: python3 exact_numbers.py > ../src/number_cases.rt
 """
 import re
 from fractions import Fraction
@@ -135,9 +135,25 @@ def row(*fields):
     ROWS.append("|".join(fields))
 
 
+def form(text, local):
+    """Whether a text is a number of the type that is kept, one past the limits, none of the type, or of no type of numbers."""
+    if read(text, local) is not None:
+        return "exact"
+    if local == "decimal":
+        return "wide" if re.fullmatch(r"[+-]?([0-9]+(\.[0-9]*)?|\.[0-9]+)", text) else "outside"
+    if local not in RANGES:
+        return "other"
+    if not re.fullmatch(r"[+-]?[0-9]+", text):
+        return "outside"
+    low, high = RANGES[local]
+    m = int(text)
+    return "outside" if (low is not None and m < low) or (high is not None and m > high) else "wide"
+
+
 def reads(local, *texts):
     for text in texts:
         row("read", local, text, shown(read(text, local)))
+        row("form", local, text, form(text, local))
 
 
 W = lambda m: ("w", m)
@@ -160,11 +176,11 @@ reads("decimal", "7.0", "7", ".5", "5.", ".", "", "+", "-", "-.5", "+.5", "-0", 
       "1.0000000000000000010", "1.0000000000000000001", "0." + "0" * 40, "0.5" + "0" * 40, "12." + "0" * 40 + "1",
       str(GREATEST), str(GREATEST + 1), str(LEAST), str(LEAST - 1), str(GREATEST) + ".0", str(GREATEST)[:-18] + "." + str(GREATEST)[-18:],
       str(GREATEST + 1)[:-18] + "." + str(GREATEST + 1)[-18:], str(LEAST)[:-18] + "." + str(LEAST)[-18:], "0" * 50 + "1.50")
-row("read", "double", "1", "none")
-row("read", "string", "1", "none")
-row("read", "Integer", "1", "none")
-row("read", "integer2", "1", "none")
-row("read", "", "1", "none")
+for name in RANGES:
+    for text in [str(2**127), str(-(2**127) - 1), str(2**128), str(-(2**128)), "9" * 60, "-" + "9" * 60]:
+        row("form", name, text, form(text, name))
+for name in ["double", "string", "Integer", "integer2", "", "boolean"]:
+    reads(name, "1")
 
 SAMPLES = [W(0), W(1), W(-7), W(10), W(GREATEST), W(LEAST), D(0, 0), D(5, 1), D(-1, 18), D(GREATEST, 18), D(LEAST, 0)]
 PAIRS = [(a, b) for a in SAMPLES for b in (W(1), W(-7), D(0, 0), D(5, 1), D(-1, 18))] + [

@@ -1,12 +1,13 @@
-//! The cases of `cases.rt`, whose answers `tests/exact_numbers.py` computes from the rules.
+//! The cases of `number_cases.rt`, whose answers `tests/exact_numbers.py` computes from the rules.
 
-use crate::cases::CASES;
-use crate::{Num, NumFault, abs, add, cmp, div, is_kept, mul, neg, read, sub, write};
+use crate::number_cases::CASES;
 use std::alloc::Global;
 use std::cmp::Ordering;
-use std::process::Abort;
 use std::test::Fail;
 use term_core::{Memory, Term};
+use xsd_num::{
+    Num, NumFault, NumForm, abs, add, cmp, div, form_of, is_kept, mul, neg, read, sub, write,
+};
 
 /// `5e-1` as the decimal of numerator 5 and scale 1, `5` as the integer.
 fn number(text: &str) -> Option<Num> {
@@ -80,51 +81,64 @@ fn written(alloc: Global, a: Num) -> Result<String, Memory> {
     }
 }
 
-/// Runs one case.
-fn run(
-    rt: &impl Abort,
+/// The name of what a literal is as a number.
+fn form_name(form: NumForm) -> &'static str {
+    match form {
+        NumForm::Exact(_) => "exact",
+        NumForm::Wide => "wide",
+        NumForm::Outside => "outside",
+        NumForm::Other => "other",
+    }
+}
+
+/// Whether a lexical form of a type reads as that number.
+fn is_read(alloc: Global, local: &str, lexical: &str, wanted: &str) -> Result<bool, Memory> {
+    let datatype = iri(alloc, local)?;
+    Ok(read(lexical.as_bytes(), datatype.as_str().as_bytes()) == number(wanted))
+}
+
+/// Whether a lexical form of a type is such a number.
+fn has_form(alloc: Global, local: &str, lexical: &str, wanted: &str) -> Result<bool, Memory> {
+    let datatype = iri(alloc, local)?;
+    Ok(form_name(form_of(lexical.as_bytes(), datatype.as_str().as_bytes())) == wanted)
+}
+
+/// Whether a number is written with that type's IRI.
+fn is_written(alloc: Global, first: &str, local: &str, wanted: &str) -> Result<bool, Memory> {
+    let datatype = iri(alloc, local)?;
+    let datatype = datatype.as_str();
+    let whole = format!(in alloc; "{wanted} {datatype}")?;
+    match number(first) {
+        Some(a) => Ok(written(alloc, a)?.as_str() == whole.as_str()),
+        None => Ok(false),
+    }
+}
+
+/// Whether an operation on one or two numbers has that answer.
+fn is_computed(name: &str, first: &str, second: &str, wanted: &str) -> bool {
+    match (number(first), number(second)) {
+        (Some(a), None) if name == "kept" => is_kept(a) == (wanted == "yes"),
+        (Some(a), Some(b)) if name == "cmp" => compared(a, b) == wanted,
+        (Some(a), Some(b)) => computed(name, a, b) == answer(wanted),
+        (Some(a), None) => computed(name, a, a) == answer(wanted),
+        _ => false,
+    }
+}
+
+/// Whether one case has its answer.
+fn is_answered(
     alloc: Global,
     name: &str,
     first: &str,
     second: &str,
     wanted: &str,
-) -> Result<(), Fail> {
+) -> Result<bool, Memory> {
     match name {
-        "read" => {
-            let datatype = iri(alloc, first)?;
-            let found = read(second.as_bytes(), datatype.as_str().as_bytes());
-            assert_eq!(rt; found, number(wanted), "{first} {second}");
-        }
-        "write" => {
-            let datatype = iri(alloc, second)?;
-            let datatype = datatype.as_str();
-            let whole = format!(in alloc; "{wanted} {datatype}")?;
-            match number(first) {
-                Some(a) => assert_eq!(rt; written(alloc, a)?.as_str(), whole.as_str()),
-                None => assert!(rt; false, "{first}"),
-            }
-        }
-        _ => match (number(first), number(second)) {
-            (Some(a), None) if name == "kept" => {
-                assert_eq!(rt; is_kept(a), wanted == "yes", "{first}");
-            }
-            (Some(a), Some(b)) if name == "cmp" => {
-                assert_eq!(rt; compared(a, b), wanted, "{first} {second}");
-            }
-            (Some(a), Some(b)) => {
-                assert_eq!(rt;
-                    computed(name, a, b),
-                    answer(wanted),
-                    "{name} {first} {second}"
-                );
-            }
-            (Some(a), None) => {
-                assert_eq!(rt; computed(name, a, a), answer(wanted), "{name} {first}");
-            }
-            _ => assert!(rt; false, "{first} {second}"),
-        },
+        "read" => is_read(alloc, first, second, wanted),
+        "form" => has_form(alloc, first, second, wanted),
+        "write" => is_written(alloc, first, second, wanted),
+        _ => Ok(is_computed(name, first, second, wanted)),
     }
-    Ok(())
 }
 
 #[test]
@@ -136,9 +150,12 @@ fn every_case_has_its_answer(rt: HostRuntime) -> Result<(), Fail> {
         let first = fields.next().unwrap_or("");
         let second = fields.next().unwrap_or("");
         let wanted = fields.next().unwrap_or("");
-        run(&rt, rt.alloc(), name, first, second, wanted)?;
+        assert!(rt;
+            is_answered(rt.alloc(), name, first, second, wanted)?,
+            "{line}"
+        );
         count = count.saturating_add(1);
     }
-    assert!(rt; count > 700);
+    assert!(rt; count > 900);
     Ok(())
 }
