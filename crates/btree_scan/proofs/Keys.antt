@@ -16,7 +16,7 @@ use Rattle.term_core.proofs.IdOrder.{ids_total}
 use Rattle.btree_scan.specs.declared.tree.Tree.{Tree}
 use Rattle.btree_scan.specs.declared.prefix.Prefix.{Prefix}
 use Rattle.btree_scan.specs.Entries.{Lists}
-use Rattle.btree_scan.specs.Cuts.{front_cmp, prefix_cmp, key_of, before, IsEdge, IsRange}
+use Rattle.btree_scan.specs.Cuts.{front_cmp, prefix_cmp, prefix_key, stands_before, IsEdge, IsKeyRange}
 
 -- what stands in front of a key that passes passes too
 abbrev pub IsFront : (IdTriple → Bool) → List IdTriple → Type 0
@@ -70,7 +70,7 @@ le_of Equal e = cc
 le_of Greater e = cc
 
 -- what stands before the keys with a prefix stands before what follows them
-pub through_too : (prefix : Prefix) (e : IdTriple) → before false prefix e ≡ true → before true prefix e ≡ true
+pub through_too : (prefix : Prefix) (e : IdTriple) → stands_before false prefix e ≡ true → stands_before true prefix e ≡ true
 through_too prefix e h = le_of (prefix_cmp prefix e) h
 
 less_of : (r : Ordering) → is_lt r ≡ true → r ≡ Less
@@ -108,11 +108,11 @@ rises es i j x y sorted at_i at_j lt =
     let b : get_or es j x ≡ y = get_or_from_slice_get es j y x at_j in
     subst (λ v. id_cmp x v ≡ Less) b (subst (λ u. id_cmp u (get_or es j x) ≡ Less) a (Less-from_sorted id_cmp es i j x sorted lt (slice_get_within es j y at_j)))
 
-pub front_before : (through : Bool) (prefix : Prefix) (es : List IdTriple) → IsStrictlySortedBy id_cmp es → IsFront (before through prefix) es
+pub front_before : (through : Bool) (prefix : Prefix) (es : List IdTriple) → IsStrictlySortedBy id_cmp es → IsFront (stands_before through prefix) es
 front_before true prefix es sorted = λ i j x y at_i at_j lt passes.
-    le_then (front_cmp prefix.len) (front_total prefix.len) x y (key_of prefix) (front_le prefix.len x y (rises es i j x y sorted at_i at_j lt)) passes
+    le_then (front_cmp prefix.len) (front_total prefix.len) x y (prefix_key prefix) (front_le prefix.len x y (rises es i j x y sorted at_i at_j lt)) passes
 front_before false prefix es sorted = λ i j x y at_i at_j lt passes.
-    lt_then (front_cmp prefix.len) (front_total prefix.len) x y (key_of prefix) (front_le prefix.len x y (rises es i j x y sorted at_i at_j lt)) passes
+    lt_then (front_cmp prefix.len) (front_total prefix.len) x y (prefix_key prefix) (front_le prefix.len x y (rises es i j x y sorted at_i at_j lt)) passes
 
 by_place : (C : Type 0) (k m : ℕ) → k ≤ m → (k ≡ m → C) → (k < m → C) → C
 by_place C zero zero le same less = same refl
@@ -175,10 +175,10 @@ counted p (x ∷ xs) (suc n) cut le =
     (counted p xs n record { below = λ k y at lt. cut.below (suc k) y at (omega arith); above = λ k y at ge. cut.above (suc k) y at (omega arith) } (omega arith))
 
 -- an edge is the number of keys before the cut
-pub edge_counts : (tree : Tree) (es : List IdTriple) (image : List ℕ) (through : Bool) (prefix : Prefix) (n : ℕ) → Lists tree es image → IsEdge tree (before through prefix) image n
-    → n ≡ count_by (before through prefix) es
+pub edge_counts : (tree : Tree) (es : List IdTriple) (image : List ℕ) (through : Bool) (prefix : Prefix) (n : ℕ) → Lists tree es image → IsEdge tree (stands_before through prefix) image n
+    → n ≡ count_by (stands_before through prefix) es
 edge_counts tree es image through prefix n lists edge =
-    counted (before through prefix) es n (cut_at tree es image (before through prefix) n lists (front_before through prefix es lists.sorted) edge) (omega (arith, edge.within, lists.entries))
+    counted (stands_before through prefix) es n (cut_at tree es image (stands_before through prefix) n lists (front_before through prefix es lists.sorted) edge) (omega (arith, edge.within, lists.entries))
 
 side : (C : Type 0) (k m : ℕ) → (k < m → C) → (m ≤ k → C) → C
 side C k zero below above = above (omega arith)
@@ -192,10 +192,10 @@ ties Greater e f = cc
 
 -- two edges are the range of the prefix
 pub edges_range : (tree : Tree) (es : List IdTriple) (image : List ℕ) (prefix : Prefix) (first end : ℕ) → Lists tree es image
-    → IsEdge tree (before false prefix) image first → IsEdge tree (before true prefix) image end → IsRange prefix es first end
+    → IsEdge tree (stands_before false prefix) image first → IsEdge tree (stands_before true prefix) image end → IsKeyRange prefix es first end
 edges_range tree es image prefix first end lists edge last =
-    let low = cut_at tree es image (before false prefix) first lists (front_before false prefix es lists.sorted) edge in
-    let high = cut_at tree es image (before true prefix) end lists (front_before true prefix es lists.sorted) last in
+    let low = cut_at tree es image (stands_before false prefix) first lists (front_before false prefix es lists.sorted) edge in
+    let high = cut_at tree es image (stands_before true prefix) end lists (front_before true prefix es lists.sorted) last in
     record {
       below = edge_counts tree es image false prefix first lists edge;
       through = edge_counts tree es image true prefix end lists last;

@@ -7,7 +7,7 @@ use Rattle.term_core.specs.declared.pattern.IdTriple.{IdTriple}
 use Rattle.term_core.specs.Ids.{id_cmp}
 use Rattle.btree_scan.specs.declared.tree.Tree.{Tree}
 use Rattle.btree_scan.specs.declared.prefix.Prefix.{Prefix}
-use Rattle.btree_scan.specs.Entries.{entry_at}
+use Rattle.btree_scan.specs.Entries.{stored_entry}
 
 -- the order of keys by the first n of their ids
 unfoldable pub front_cmp : ℕ → IdTriple → IdTriple → Ordering
@@ -18,30 +18,30 @@ front_cmp n a b =
     else id_cmp a b
 
 -- the ids of a prefix as a key
-abbrev pub key_of : Prefix → IdTriple
-key_of prefix = record { s = prefix.a; p = prefix.b; o = prefix.c }
+abbrev pub prefix_key : Prefix → IdTriple
+prefix_key prefix = record { s = prefix.a; p = prefix.b; o = prefix.c }
 
 -- how the front of a key stands to a prefix
 abbrev pub prefix_cmp : Prefix → IdTriple → Ordering
-prefix_cmp prefix e = front_cmp prefix.len e (key_of prefix)
+prefix_cmp prefix e = front_cmp prefix.len e (prefix_key prefix)
 
 -- the key begins with the prefix
 abbrev pub HasPrefix : Prefix → IdTriple → Type 0
 HasPrefix prefix e = prefix_cmp prefix e ≡ Equal
 
 -- the key stands before all keys with the prefix; or, with them, before what follows these
-abbrev pub before : Bool → Prefix → IdTriple → Bool
-before true prefix e = is_le (prefix_cmp prefix e)
-before false prefix e = is_lt (prefix_cmp prefix e)
+abbrev pub stands_before : Bool → Prefix → IdTriple → Bool
+stands_before true prefix e = is_le (prefix_cmp prefix e)
+stands_before false prefix e = is_lt (prefix_cmp prefix e)
 
 -- a place at which the entry in front of it passes a test, and the one that stands there does not
 pub record IsEdge (tree : Tree) (test : IdTriple → Bool) (image : List ℕ) (place : ℕ) : Type 0 where
   pub within : place ≤ tree.entries
-  pub below : (k : ℕ) → k + 1 ≡ place → test (entry_at tree k image) ≡ true
-  pub above : place < tree.entries → test (entry_at tree place image) ≡ false
+  pub below : (k : ℕ) → k + 1 ≡ place → test (stored_entry tree k image) ≡ true
+  pub above : place < tree.entries → test (stored_entry tree place image) ≡ false
 
 -- from the first to the end stand the keys with the prefix, and no others
-pub record IsRange (prefix : Prefix) (es : List IdTriple) (first end : ℕ) : Type 0 where
-  pub below : first ≡ count_by (before false prefix) es
-  pub through : end ≡ count_by (before true prefix) es
+pub record IsKeyRange (prefix : Prefix) (es : List IdTriple) (first end : ℕ) : Type 0 where
+  pub below : first ≡ count_by (stands_before false prefix) es
+  pub through : end ≡ count_by (stands_before true prefix) es
   pub exactly : (k : ℕ) (e : IdTriple) → slice_get es k ≡ Some e → HasPrefix prefix e ↔ ((first ≤ k) × (k < end))

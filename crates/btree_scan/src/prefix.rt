@@ -1,6 +1,6 @@
 // Fronts of keys.
 ghost use Rattle.std.specs.Prelude.{◌≡◌};
-ghost use Rattle.btree_scan.specs.Cuts.{before, prefix_cmp};
+ghost use Rattle.btree_scan.specs.Cuts.{stands_before, prefix_cmp};
 
 use std::cmp::Ordering;
 use term_core::IdTriple;
@@ -36,7 +36,7 @@ fn front_order(prefix: &Prefix, key: &IdTriple) -> Ordering
 
 /// Whether the key stands before the keys with the prefix, or `through` and is one of them.
 pub(crate) fn is_before(through: bool, prefix: &Prefix, key: &IdTriple) -> bool
-    ensures { result ≡ before through prefix.now key.now }
+    ensures { result ≡ stands_before through prefix.now key.now }
 {
     let order = front_order(prefix, key);
     if through {

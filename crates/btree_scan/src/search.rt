@@ -5,8 +5,8 @@ ghost use Rattle.sage_outside.specs.Causes.{Rose};
 ghost use Rattle.sage_outside.specs.Blocks.{HasRead, Tells};
 ghost use Rattle.term_core.specs.declared.pattern.IdTriple.{IdTriple};
 ghost use Rattle.term_core.specs.Ids.{id_cmp};
-ghost use Rattle.btree_scan.specs.Entries.{Lies, Lists, entry_at};
-ghost use Rattle.btree_scan.specs.Cuts.{IsEdge, IsRange, before};
+ghost use Rattle.btree_scan.specs.Entries.{ListLies, Lists, stored_entry};
+ghost use Rattle.btree_scan.specs.Cuts.{IsEdge, IsKeyRange, stands_before};
 
 use crate::prefix::{Prefix, is_before};
 use crate::tree::{Tree, entry};
@@ -22,15 +22,15 @@ fn cut_place<B: Blocks>(
     through: bool,
     prefix: &Prefix,
 ) -> Result<u32, ReadFault>
-    requires lies { Lies tree.now (B.device blocks.old).count }
+    requires lies { ListLies tree.now (B.device blocks.old).count }
     requires from { from ≤ tree.now.entries }
     ensures read { HasRead (B.device blocks.old) (B.device blocks.new) 44 }
     ensures failed { OnErr result (Rose (B.device blocks.old).faults (B.device blocks.new).faults) }
     ensures whole { (block : ℕ) → result ≡ Err (ReadFault.Damaged block) → ⊥ }
     ensures within { IfOk result (λ n. (from ≤ n) × (n ≤ tree.now.entries)) }
     ensures edge { (image : List ℕ) → Tells (B.device blocks.old).image image
-        → ((k : ℕ) → k + 1 ≡ from → before through prefix.now (entry_at tree.now k image) ≡ true)
-        → IfOk result (IsEdge tree.now (before through prefix.now) image) }
+        → ((k : ℕ) → k + 1 ≡ from → stands_before through prefix.now (stored_entry tree.now k image) ≡ true)
+        → IfOk result (IsEdge tree.now (stands_before through prefix.now) image) }
 {
     let mut low = from;
     let mut high = tree.entries;
@@ -55,7 +55,7 @@ fn cut_place<B: Blocks>(
 /// `Blocks` comes only where a read failed; `Damaged` never. At most 44 blocks are read, two for
 /// each of 22 steps.
 pub fn lower_bound<B: Blocks>(tree: &Tree, blocks: &mut B, key: &IdTriple) -> Result<u32, ReadFault>
-    requires lies { Lies tree.now (B.device blocks.old).count }
+    requires lies { ListLies tree.now (B.device blocks.old).count }
     ensures read { HasRead (B.device blocks.old) (B.device blocks.new) 44 }
     ensures failed { OnErr result (Rose (B.device blocks.old).faults (B.device blocks.new).faults) }
     ensures whole { (block : ℕ) → result ≡ Err (ReadFault.Damaged block) → ⊥ }
@@ -85,17 +85,17 @@ pub fn range<B: Blocks>(
     blocks: &mut B,
     prefix: &Prefix,
 ) -> Result<(u32, u32), ReadFault>
-    requires lies { Lies tree.now (B.device blocks.old).count }
+    requires lies { ListLies tree.now (B.device blocks.old).count }
     requires len { prefix.now.len ≤ 3 }
     ensures read { HasRead (B.device blocks.old) (B.device blocks.new) 88 }
     ensures failed { OnErr result (Rose (B.device blocks.old).faults (B.device blocks.new).faults) }
     ensures whole { (block : ℕ) → result ≡ Err (ReadFault.Damaged block) → ⊥ }
     ensures within { IfOk result (λ x. (x.0 ≤ x.1) × (x.1 ≤ tree.now.entries)) }
     ensures edges { (image : List ℕ) → Tells (B.device blocks.old).image image
-        → IfOk result (λ x. IsEdge tree.now (before false prefix.now) image x.0
-        × IsEdge tree.now (before true prefix.now) image x.1) }
+        → IfOk result (λ x. IsEdge tree.now (stands_before false prefix.now) image x.0
+        × IsEdge tree.now (stands_before true prefix.now) image x.1) }
     ensures found { (es : List IdTriple) (image : List ℕ) → Tells (B.device blocks.old).image image
-        → Lists tree.now es image → IfOk result (λ x. IsRange prefix.now es x.0 x.1) }
+        → Lists tree.now es image → IfOk result (λ x. IsKeyRange prefix.now es x.0 x.1) }
 {
     let first = cut_place(tree, blocks, 0, false, prefix)?;
     let end = cut_place(tree, blocks, first, true, prefix)?;

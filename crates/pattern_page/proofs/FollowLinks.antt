@@ -7,17 +7,17 @@ use Rattle.term_core.specs.Order.{term_cmp}
 use Rattle.term_core.specs.OrderLaws.{terms_total}
 use Rattle.term_core.specs.Bags.{total, SameBag}
 use Rattle.term_core.proofs.Bags.{same_members}
-use Rattle.sparql_tree.specs.Bgp.{terms_of}
+use Rattle.term_core.specs.Data.{terms_of}
 use Rattle.plan_tree.specs.Trace.{steps}
 use Rattle.plan_tree.specs.Pages.{Page, IsPage}
 use Rattle.plan_tree.specs.StateLaws.{IsCountable}
-use Rattle.plan_tree.proofs.Orders.{AreDistinct-ordered}
-use Rattle.plan_tree.proofs.Ranked.{terms_distinct}
+use Rattle.term_core.proofs.Orders.{AreDistinct-ordered}
+use Rattle.term_core.proofs.Ranked.{terms_distinct}
 use Rattle.plan_tree.proofs.Standing.{stands_below}
 use Rattle.plan_tree.proofs.Spelled.{next_placed}
 use Rattle.pattern_page.specs.declared.page.Page as code_page
-use Rattle.pattern_page.specs.Part.{part_text, part_plan}
-use Rattle.pattern_page.specs.PagesOf.{Seen, IsOf, page_of, Answers}
+use Rattle.pattern_page.specs.Part.{select_all_text, part_plan}
+use Rattle.pattern_page.specs.PagesOf.{Seen, IsOf, page_of, AnswersPage}
 use Rattle.pattern_page.specs.declared.follow.Walk.{Walk}
 use Rattle.pattern_page.specs.declared.page.PageFault.{PageFault}
 use Rattle.pattern_page.specs.declared.page.PageFault.TheVariants as faults
@@ -47,22 +47,22 @@ module _ (D : List Triple) (pattern : Pattern) (part : Seen) (h : IsOf D pattern
   begins_below n (Some bytes) b = stands_below D (part_plan pattern) b.0 n b.1
 
   -- the page of the bytes is the page of the place
-  pub turned : (n quantum : ℕ) (next : Option (List ℕ)) (page : code_page.Page) → Begins D pattern n next → Answers D pattern next quantum (Ok page)
-      → IsPage D (part_plan pattern) (part_text pattern) n quantum (page_of page)
-  turned n quantum None page b a = subst (λ m. IsPage D (part_plan pattern) (part_text pattern) m quantum (page_of page)) (sym b) a
+  pub turned : (n quantum : ℕ) (next : Option (List ℕ)) (page : code_page.Page) → Begins D pattern n next → AnswersPage D pattern next quantum (Ok page)
+      → IsPage D (part_plan pattern) (select_all_text pattern) n quantum (page_of page)
+  turned n quantum None page b a = subst (λ m. IsPage D (part_plan pattern) (select_all_text pattern) m quantum (page_of page)) (sym b) a
   turned n quantum (Some bytes) page b a =
-      let same : a.entry ≡ n = next_placed D (part_plan pattern) (part_text pattern) (Some bytes) a.entry n countable (a.state, a.stands, a.bytes_are) b in
-      subst (λ m. IsPage D (part_plan pattern) (part_text pattern) m quantum (page_of page)) same a.page_is
+      let same : a.entry ≡ n = next_placed D (part_plan pattern) (select_all_text pattern) (Some bytes) a.entry n countable (a.state, a.stands, a.bytes_are) b in
+      subst (λ m. IsPage D (part_plan pattern) (select_all_text pattern) m quantum (page_of page)) same a.page_is
 
   -- the counts fit
   pub pages_fit : (n pages : ℕ) (next : Option (List ℕ)) → Begins D pattern n next → pages ≤ n → pages < 18446744073709551615
   pages_fit n pages next b l = omega (arith, begins_below n next b, steps_are D pattern part h, h.few, l)
 
-  pub steps_fit : (n quantum : ℕ) (next : Option (List ℕ)) (page : Page) → Begins D pattern n next → IsPage D (part_plan pattern) (part_text pattern) n quantum page → n + page.steps < 18446744073709551616
+  pub steps_fit : (n quantum : ℕ) (next : Option (List ℕ)) (page : Page) → Begins D pattern n next → IsPage D (part_plan pattern) (select_all_text pattern) n quantum page → n + page.steps < 18446744073709551616
   steps_fit n quantum next page b is = omega (arith, begins_below n next b, is.steps_are, steps_are D pattern part h, h.few)
 
   -- the page of the place, or a refusal that is none of its bytes
-  pub turned_all : (n quantum : ℕ) (next : Option (List ℕ)) (r : Result code_page.Page PageFault) → Begins D pattern n next → Answers D pattern next quantum r
+  pub turned_all : (n quantum : ℕ) (next : Option (List ℕ)) (r : Result code_page.Page PageFault) → Begins D pattern n next → AnswersPage D pattern next quantum r
       → IsTurned D pattern n quantum r
   turned_all n quantum next (Ok page) b a = turned n quantum next page b a
   turned_all n quantum None (Err faults.Plan) b a = a

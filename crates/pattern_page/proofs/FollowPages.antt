@@ -6,12 +6,12 @@ use Rattle.term_core.specs.declared.term.Triple.{Triple}
 use Rattle.term_core.specs.declared.pattern.Pattern.{Pattern}
 use Rattle.term_core.specs.Mappings.{Name, Row}
 use Rattle.plan_tree.specs.Trace.{Plan, steps}
-use Rattle.plan_tree.specs.Pages.{Page, IsNext, page_end, IsPage, IsRun, AreQuanta, walked, rows_in, steps_in, next_length, longest_in}
+use Rattle.plan_tree.specs.Pages.{Page, IsNext, page_end, IsPage, IsRun, AreQuanta, walked, rows_in, steps_in, next_length, longest_plan_in}
 use Rattle.plan_tree.specs.StateLaws.{TakesSteps}
 use Rattle.plan_tree.proofs.Runs.{takes_steps, goes_round}
 use Rattle.pattern_page.specs.declared.follow.Counts.{Counts}
 use Rattle.pattern_page.specs.declared.follow.Walk.{Walk}
-use Rattle.pattern_page.specs.Part.{part_text, part_plan}
+use Rattle.pattern_page.specs.Part.{select_all_text, part_plan}
 use Rattle.pattern_page.specs.Results.{line}
 use Rattle.pattern_page.specs.PagesOf.{Seen, IsOf}
 use Rattle.pattern_page.specs.Followed.{next_in, Begins, IsPaged, IsFront, AreGiven, IsWalked, IsFollowed}
@@ -22,7 +22,7 @@ steps_more : (pages : List Page) (page : Page) → steps_in (pages ++ page ∷ [
 steps_more [] page = omega arith
 steps_more (p ∷ pages) page = omega (arith, steps_more pages page)
 
-longest_more : (pages : List Page) (page : Page) → longest_in (pages ++ page ∷ []) ≡ max (longest_in pages) (next_length page.next)
+longest_more : (pages : List Page) (page : Page) → longest_plan_in (pages ++ page ∷ []) ≡ max (longest_plan_in pages) (next_length page.next)
 longest_more [] page = omega arith
 longest_more (p ∷ pages) page = omega (arith, longest_more pages page)
 
@@ -56,8 +56,8 @@ module _ (D : List Triple) (plan : Plan) (text : List ℕ) (quanta : ℕ → ℕ
   front_run k m n (p ∷ pages) (l, is, rest) e = (l, is, front_run (k + 1) (m + p.steps) n pages rest e)
 
 module _ (D : List Triple) (pattern : Pattern) (part : Seen) (h : IsOf D pattern part) (quanta : List ℕ) (are : AreQuanta quanta) (names : List Name) where
-  taken : (k n : ℕ) (next : Option (List ℕ)) (page : Page) → Begins D pattern n next → IsPage D (part_plan pattern) (part_text pattern) n (walked quanta k) page → TakesSteps D (part_plan pattern) n (walked quanta k) page
-  taken k n next page b is = takes_steps D (part_plan pattern) (part_text pattern) n (walked quanta k) page (begins_below D pattern part h n next b) ((goes_round quanta are).some k) is
+  taken : (k n : ℕ) (next : Option (List ℕ)) (page : Page) → Begins D pattern n next → IsPage D (part_plan pattern) (select_all_text pattern) n (walked quanta k) page → TakesSteps D (part_plan pattern) n (walked quanta k) page
+  taken k n next page b is = takes_steps D (part_plan pattern) (select_all_text pattern) n (walked quanta k) page (begins_below D pattern part h n next b) ((goes_round quanta are).some k) is
 
   given_more : (count : ℕ) (old new : Walk) (before middle after : List ℕ) (more : Bool) → IsWalked D pattern quanta names count old before middle → IsPaged D pattern (walked quanta count) names old new middle after more
       → AreGiven D pattern quanta names (count + 1) new before after
@@ -67,8 +67,8 @@ module _ (D : List Triple) (pattern : Pattern) (part : Seen) (h : IsOf D pattern
       let t = taken count old.counts.steps (next_in old) p.page w.begins p.page_is in
       record {
         pages = g.pages ++ p.page ∷ [];
-        front = subst (λ n. IsFront D (part_plan pattern) (part_text pattern) (walked quanta) 0 0 (g.pages ++ p.page ∷ []) n) (sym p.counts_are.steps_are)
-            (front_more D (part_plan pattern) (part_text pattern) (walked quanta) 0 0 old.counts.steps count g.pages p.page g.front (begins_below D pattern part h old.counts.steps (next_in old) w.begins) (omega (arith, g.count_is)) p.page_is);
+        front = subst (λ n. IsFront D (part_plan pattern) (select_all_text pattern) (walked quanta) 0 0 (g.pages ++ p.page ∷ []) n) (sym p.counts_are.steps_are)
+            (front_more D (part_plan pattern) (select_all_text pattern) (walked quanta) 0 0 old.counts.steps count g.pages p.page g.front (begins_below D pattern part h old.counts.steps (next_in old) w.begins) (omega (arith, g.count_is)) p.page_is);
         count_is = omega (arith, length-append g.pages (p.page ∷ []), g.count_is);
         few = omega (arith, g.few, t.some, p.counts_are.steps_are);
         are = record {
@@ -81,17 +81,17 @@ module _ (D : List Triple) (pattern : Pattern) (part : Seen) (h : IsOf D pattern
 
   -- where the page ends
   ends : (count : ℕ) (old new : Walk) (before middle after : List ℕ) (more : Bool) → IsWalked D pattern quanta names count old before middle → IsPaged D pattern (walked quanta count) names old new middle after more
-      → (next : Option (List ℕ)) × (next_in new ≡ next) × (more ≡ is_some next) × IsNext D (part_plan pattern) (part_text pattern) new.counts.steps next
+      → (next : Option (List ℕ)) × (next_in new ≡ next) × (more ≡ is_some next) × IsNext D (part_plan pattern) (select_all_text pattern) new.counts.steps next
   ends count old new before middle after more w p =
       let t = taken count old.counts.steps (next_in old) p.page w.begins p.page_is in
       let end : page_end D (part_plan pattern) old.counts.steps (walked quanta count) ≡ new.counts.steps = sym t.end ∙ sym p.counts_are.steps_are in
-      (p.page.next, p.next_is, p.more_is, subst (λ n. IsNext D (part_plan pattern) (part_text pattern) n p.page.next) end p.page_is.next_is)
+      (p.page.next, p.next_is, p.more_is, subst (λ n. IsNext D (part_plan pattern) (select_all_text pattern) n p.page.next) end p.page_is.next_is)
 
-  begins_after : (n : ℕ) (found next : Option (List ℕ)) → found ≡ next → true ≡ is_some next → IsNext D (part_plan pattern) (part_text pattern) n next → Begins D pattern n found
+  begins_after : (n : ℕ) (found next : Option (List ℕ)) → found ≡ next → true ≡ is_some next → IsNext D (part_plan pattern) (select_all_text pattern) n next → Begins D pattern n found
   begins_after n found None e m is = cc
   begins_after n found (Some bytes) e m is = subst (Begins D pattern n) (sym e) is
 
-  ends_after : (n : ℕ) (next : Option (List ℕ)) → false ≡ is_some next → IsNext D (part_plan pattern) (part_text pattern) n next → n ≡ steps D (part_plan pattern)
+  ends_after : (n : ℕ) (next : Option (List ℕ)) → false ≡ is_some next → IsNext D (part_plan pattern) (select_all_text pattern) n next → n ≡ steps D (part_plan pattern)
   ends_after n None m is = is
   ends_after n (Some bytes) m is = cc
 
@@ -117,7 +117,7 @@ module _ (D : List Triple) (pattern : Pattern) (part : Seen) (h : IsOf D pattern
       let g = given_more count old new before middle after more w p in
       record {
         pages = g.pages;
-        run = front_run D (part_plan pattern) (part_text pattern) (walked quanta) 0 0 new.counts.steps g.pages g.front (ends_after new.counts.steps x.0 (sym e ∙ x.2) x.3);
+        run = front_run D (part_plan pattern) (select_all_text pattern) (walked quanta) 0 0 new.counts.steps g.pages g.front (ends_after new.counts.steps x.0 (sym e ∙ x.2) x.3);
         are = g.are;
       }
 

@@ -8,7 +8,7 @@ use Rattle.term_core.proofs.Merges.{Some_same}
 use Rattle.plan_tree.specs.States.{at_triple, State, join_state}
 use Rattle.plan_tree.specs.Spelling.{state_bytes}
 use Rattle.plan_tree.specs.OnePattern.{fresh_state, opened_state, closing_state}
-use Rattle.plan_tree.proofs.Ranked.{In-slice_get}
+use Rattle.term_core.proofs.Ranked.{In-slice_get}
 use Rattle.pattern_page.specs.declared.page.Cursor.{Cursor}
 use Rattle.pattern_page.specs.declared.page.Cursor.TheVariants as cursors
 use Rattle.pattern_page.specs.declared.page.Part.{Part}
@@ -16,9 +16,9 @@ use Rattle.pattern_page.specs.declared.state.State as code_state
 use Rattle.pattern_page.specs.declared.state.State.TheVariants as states
 use Rattle.term_core.specs.declared.term.Term.{Term}
 use Rattle.sage_outside.specs.declared.fault.StoreFault.{StoreFault}
-use Rattle.triple_table.specs.Table.{IsBelow, IsFound}
+use Rattle.store_image.specs.Table.{IsBelow, IsFound}
 use Rattle.pattern_page.specs.StateReading.{at_state, state_of, state_at, AreSmall, AreBytes}
-use Rattle.pattern_page.specs.PagesOf.{Seen, seen, entry_at, rest_of, IsWithin, IsSound, IsReadable, cursor_state, spelled, saved_at, IsBehind, IsNamed, IsRead, IsPlaced, Loads}
+use Rattle.pattern_page.specs.PagesOf.{Seen, part_seen, range_entry, rest_of, IsCursorWithin, IsSound, IsReadable, cursor_state, spelled_state, saved_at, IsBehind, IsNamed, IsRead, IsPlaced, Loads}
 use Rattle.pattern_page.proofs.StateBytes.{state_again, state_only}
 use Rattle.pattern_page.proofs.PageLists.{drop_at}
 
@@ -32,7 +32,7 @@ small_at part k ids s e =
     record { s = omega (arith, b.s, s.few); p = omega (arith, b.p, s.few); o = omega (arith, b.o, s.few) }
 
 -- the steps
-pub gives_triple : (part : Seen) (place : ℕ) (ids : IdTriple) (row : Option Row) → slice_get (part.triples) place ≡ Some ids → row ≡ entry_at part ids
+pub gives_triple : (part : Seen) (place : ℕ) (ids : IdTriple) (row : Option Row) → slice_get (part.triples) place ≡ Some ids → row ≡ range_entry part ids
     → rest_of part (drop place (part.triples)) ≡ row ∷ rest_of part (drop (place + 1) (part.triples))
 gives_triple part place ids row e r =
     ap (rest_of part) (drop_at (part.triples) place ids e) ∙ ap (λ w. w ∷ rest_of part (drop (place + 1) (part.triples))) (sym r)
@@ -41,11 +41,11 @@ gives_triple part place ids row e r =
 pub record HasState (part : Seen) (cursor : Cursor) (bytes : List ℕ) : Type 0 where
   pub state : State
   pub at : cursor_state part cursor ≡ Some state
-  pub is : bytes ≡ spelled part state
+  pub is : bytes ≡ spelled_state part state
 
-from_saved : (part : Seen) (found : Option State) (bytes : List ℕ) → option_map (spelled part) found ≡ Some bytes → (state : State) × (found ≡ Some state) × (bytes ≡ spelled part state)
+from_saved : (part : Seen) (found : Option State) (bytes : List ℕ) → option_map (spelled_state part) found ≡ Some bytes → (state : State) × (found ≡ Some state) × (bytes ≡ spelled_state part state)
 from_saved part None bytes e = cc
-from_saved part (Some state) bytes e = (state, refl, sym (Some_same (spelled part state) bytes e))
+from_saved part (Some state) bytes e = (state, refl, sym (Some_same (spelled_state part state) bytes e))
 
 pub saved_state : (part : Seen) (cursor : Cursor) (bytes : List ℕ) → saved_at part cursor ≡ Some bytes → HasState part cursor bytes
 saved_state part cursor bytes e = let r = from_saved part (cursor_state part cursor) bytes e in record { state = r.0; at = r.1; is = r.2 }
@@ -138,21 +138,21 @@ module _ (part : Seen) (ids : IdTriple) where
       (slice_get_below part.triples place ids e, ap (option_map at_state) e)
 
 -- the cursor of bytes
-module _ (part : Part) (terms : List Term) (ids : List IdTriple) (bytes : List ℕ) (sound : IsSound (seen part terms ids)) where
-  pub not_loaded : IsRead part bytes None → Loads (seen part terms ids) bytes None
+module _ (part : Part) (terms : List Term) (ids : List IdTriple) (bytes : List ℕ) (sound : IsSound (part_seen part terms ids)) where
+  pub not_loaded : IsRead part bytes None → Loads (part_seen part terms ids) bytes None
   not_loaded r = λ cursor w e.
-      let h = saved_state (seen part terms ids) cursor bytes e in
-      r h.state (cursor_again (seen part terms ids) cursor h.state sound h.at) (sym h.is)
+      let h = saved_state (part_seen part terms ids) cursor bytes e in
+      r h.state (cursor_again (part_seen part terms ids) cursor h.state sound h.at) (sym h.is)
 
-  pub loaded : (state : code_state.State) (found : Option Cursor) → IsRead part bytes (Some state) → IsPlaced (seen part terms ids) state found → Loads (seen part terms ids) bytes found
+  pub loaded : (state : code_state.State) (found : Option Cursor) → IsRead part bytes (Some state) → IsPlaced (part_seen part terms ids) state found → Loads (part_seen part terms ids) bytes found
   loaded state None r p = λ cursor w e.
-      let h = saved_state (seen part terms ids) cursor bytes e in
+      let h = saved_state (part_seen part terms ids) cursor bytes e in
       let same : state_bytes (state_of state) ≡ state_bytes h.state = named_same part.data_name part.text_name (state_bytes (state_of state)) (state_bytes h.state) (r.0 ∙ h.is) in
-      p cursor w (h.at ∙ sym (cursor_again (seen part terms ids) cursor h.state sound h.at) ∙ ap state_at (sym same) ∙ r.1)
-  loaded state (Some cursor) r p = (p.0, ap (option_map (spelled (seen part terms ids))) p.1 ∙ ap Some r.0)
+      p cursor w (h.at ∙ sym (cursor_again (part_seen part terms ids) cursor h.state sound h.at) ∙ ap state_at (sym same) ∙ r.1)
+  loaded state (Some cursor) r p = (p.0, ap (option_map (spelled_state (part_seen part terms ids))) p.1 ∙ ap Some r.0)
 
-  pub loaded_all : (state : code_state.State) (r : Result (Option Cursor) StoreFault) → IsRead part bytes (Some state) → IfOk r (IsPlaced (seen part terms ids) state)
-      → IfOk r (Loads (seen part terms ids) bytes)
+  pub loaded_all : (state : code_state.State) (r : Result (Option Cursor) StoreFault) → IsRead part bytes (Some state) → IfOk r (IsPlaced (part_seen part terms ids) state)
+      → IfOk r (Loads (part_seen part terms ids) bytes)
   loaded_all state (Ok found) r p = loaded state found r p
   loaded_all state (Err fault) r p = tt
 

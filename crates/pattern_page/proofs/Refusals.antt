@@ -11,7 +11,7 @@ use Rattle.sage_outside.specs.declared.fault.StoreFault.TheVariants as store_fau
 use Rattle.store_image.specs.Holds.{Shows}
 use Rattle.triple_store.specs.declared.range.Range.{Range}
 use Rattle.triple_store.specs.Stores.{View, IsKept, IsShown}
-use Rattle.triple_store.specs.Ranges.{IsWithin as IsInStore}
+use Rattle.triple_store.specs.Ranges.{IsInStore}
 use Rattle.pattern_page.specs.declared.page.Part.{Part}
 use Rattle.pattern_page.specs.declared.page.PageFault.{PageFault}
 use Rattle.pattern_page.specs.declared.page.PageFault.TheVariants as faults

@@ -6,17 +6,18 @@ use Rattle.std.proofs.lemmas.Nat.{from_be_bytes-to_be_bytes_4, be_bytes_4}
 use Rattle.term_core.specs.declared.pattern.IdTriple.{IdTriple}
 use Rattle.term_core.proofs.Merges.{Some_same}
 use Rattle.plan_tree.specs.States.{State}
-use Rattle.plan_tree.specs.Spelling.{number_bytes, ids_bytes, state_bytes}
+use Rattle.term_core.specs.Ids.{number_bytes, ids_bytes}
+use Rattle.plan_tree.specs.Spelling.{state_bytes}
 use Rattle.plan_tree.specs.OnePattern.{fresh_state, opened_state, closing_state}
 use Rattle.pattern_page.specs.declared.state.State as code
 use Rattle.pattern_page.specs.declared.state.State.TheVariants as states
-use Rattle.pattern_page.specs.StateReading.{at_state, state_of, number_at, last_at, second_at, first_at, ids_at, inner_at, placed_at, state_at, AreSmall, AreBytes, IsSmallState, AreRead}
+use Rattle.pattern_page.specs.StateReading.{at_state, state_of, state_number, last_at, second_at, first_at, ids_at, inner_at, placed_at, state_at, AreSmall, AreBytes, IsSmallState, StatesAreRead}
 
 -- written and read again
-number_again : (n : ℕ) (rest : List ℕ) → n < 2 ^ 32 → number_at (number_bytes n ++ rest) ≡ Some (n, rest)
+number_again : (n : ℕ) (rest : List ℕ) → n < 2 ^ 32 → state_number (number_bytes n ++ rest) ≡ Some (n, rest)
 number_again n rest h = λ i. Some (from_be_bytes-to_be_bytes_4 n h i, rest)
 
-number_alone : (n : ℕ) → n < 2 ^ 32 → number_at (number_bytes n) ≡ Some (n, [])
+number_alone : (n : ℕ) → n < 2 ^ 32 → state_number (number_bytes n) ≡ Some (n, [])
 number_alone n h = λ i. Some (from_be_bytes-to_be_bytes_4 n h i, [])
 
 pub ids_again : (ids : IdTriple) → AreSmall ids → ids_at (ids_bytes ids) ≡ Some ids
@@ -43,7 +44,7 @@ record IsNumber (bytes : List ℕ) (n : ℕ) (rest : List ℕ) : Type 0 where
   is : bytes ≡ number_bytes n ++ rest
   more : AreBytes rest
 
-number_only : (bytes : List ℕ) (n : ℕ) (rest : List ℕ) → AreBytes bytes → number_at bytes ≡ Some (n, rest) → IsNumber bytes n rest
+number_only : (bytes : List ℕ) (n : ℕ) (rest : List ℕ) → AreBytes bytes → state_number bytes ≡ Some (n, rest) → IsNumber bytes n rest
 number_only [] n rest h e = cc
 number_only (a ∷ []) n rest h e = cc
 number_only (a ∷ b ∷ []) n rest h e = cc
@@ -64,7 +65,7 @@ record IsLast (bytes : List ℕ) (s p : ℕ) (ids : IdTriple) : Type 0 where
   first : s ≡ ids.s
   second : p ≡ ids.p
 
-from_last : (bytes : List ℕ) (s p : ℕ) (found : Option (ℕ × List ℕ)) (ids : IdTriple) → AreBytes bytes → number_at bytes ≡ found → last_at s p found ≡ Some ids → IsLast bytes s p ids
+from_last : (bytes : List ℕ) (s p : ℕ) (found : Option (ℕ × List ℕ)) (ids : IdTriple) → AreBytes bytes → state_number bytes ≡ found → last_at s p found ≡ Some ids → IsLast bytes s p ids
 from_last bytes s p None ids h f e = cc
 from_last bytes s p (Some (o, x ∷ rest)) ids h f e = cc
 from_last bytes s p (Some (o, [])) ids h f e =
@@ -80,25 +81,25 @@ record IsSecond (bytes : List ℕ) (s : ℕ) (ids : IdTriple) : Type 0 where
   is : bytes ≡ number_bytes ids.p ++ number_bytes ids.o
   first : s ≡ ids.s
 
-from_second : (bytes : List ℕ) (s : ℕ) (found : Option (ℕ × List ℕ)) (ids : IdTriple) → AreBytes bytes → number_at bytes ≡ found → second_at s found ≡ Some ids → IsSecond bytes s ids
+from_second : (bytes : List ℕ) (s : ℕ) (found : Option (ℕ × List ℕ)) (ids : IdTriple) → AreBytes bytes → state_number bytes ≡ found → second_at s found ≡ Some ids → IsSecond bytes s ids
 from_second bytes s None ids h f e = cc
 from_second bytes s (Some (p, rest)) ids h f e =
     let r = number_only bytes p rest h f in
-    let l = from_last rest s p (number_at rest) ids r.more refl e in
+    let l = from_last rest s p (state_number rest) ids r.more refl e in
     record { is = r.is ∙ ap (λ w. number_bytes p ++ w) l.is ∙ ap (λ w. number_bytes w ++ number_bytes ids.o) l.second; first = l.first }
 
-from_first : (bytes : List ℕ) (found : Option (ℕ × List ℕ)) (ids : IdTriple) → AreBytes bytes → number_at bytes ≡ found → first_at found ≡ Some ids → bytes ≡ ids_bytes ids
+from_first : (bytes : List ℕ) (found : Option (ℕ × List ℕ)) (ids : IdTriple) → AreBytes bytes → state_number bytes ≡ found → first_at found ≡ Some ids → bytes ≡ ids_bytes ids
 from_first bytes None ids h f e = cc
 from_first bytes (Some (s, rest)) ids h f e =
     let r = number_only bytes s rest h f in
-    let l = from_second rest s (number_at rest) ids r.more refl e in
+    let l = from_second rest s (state_number rest) ids r.more refl e in
     r.is ∙ ap (λ w. number_bytes s ++ w) l.is ∙ ap (λ w. number_bytes w ++ (number_bytes ids.p ++ number_bytes ids.o)) l.first
 
 from_ids : (bytes : List ℕ) (found : Option IdTriple) (state : State) → AreBytes bytes → ids_at bytes ≡ found → option_map at_state found ≡ Some state
     → 2 ∷ 1 ∷ (number_bytes 1 ++ 2 ∷ bytes) ≡ state_bytes state
 from_ids bytes None state h f e = cc
 from_ids bytes (Some ids) state h f e =
-    ap (λ w. 2 ∷ 1 ∷ (number_bytes 1 ++ 2 ∷ w)) (from_first bytes (number_at bytes) ids h refl f) ∙ ap state_bytes (Some_same (at_state ids) state e)
+    ap (λ w. 2 ∷ 1 ∷ (number_bytes 1 ++ 2 ∷ w)) (from_first bytes (state_number bytes) ids h refl f) ∙ ap state_bytes (Some_same (at_state ids) state e)
 
 inner_only : (place : ℕ) (bytes : List ℕ) (state : State) → AreBytes bytes → inner_at place bytes ≡ Some state → 2 ∷ 1 ∷ (number_bytes place ++ bytes) ≡ state_bytes state
 inner_only zero [] state h e = cc
@@ -114,7 +115,7 @@ inner_only (suc zero) (suc (suc zero) ∷ bytes) state h e = from_ids bytes (ids
 inner_only (suc zero) (suc (suc (suc n)) ∷ bytes) state h e = cc
 inner_only (suc (suc n)) bytes state h e = cc
 
-placed_only : (bytes : List ℕ) (found : Option (ℕ × List ℕ)) (state : State) → AreBytes bytes → number_at bytes ≡ found → placed_at found ≡ Some state → 2 ∷ 1 ∷ bytes ≡ state_bytes state
+placed_only : (bytes : List ℕ) (found : Option (ℕ × List ℕ)) (state : State) → AreBytes bytes → state_number bytes ≡ found → placed_at found ≡ Some state → 2 ∷ 1 ∷ bytes ≡ state_bytes state
 placed_only bytes None state h f e = cc
 placed_only bytes (Some (place, rest)) state h f e =
     let r = number_only bytes place rest h f in
@@ -128,7 +129,7 @@ state_only (suc (suc (suc n)) ∷ bytes) state h e = cc
 state_only (suc (suc zero) ∷ []) state h e = cc
 state_only (suc (suc zero) ∷ zero ∷ bytes) state h e = cc
 state_only (suc (suc zero) ∷ suc (suc n) ∷ bytes) state h e = cc
-state_only (suc (suc zero) ∷ suc zero ∷ bytes) state h e = placed_only bytes (number_at bytes) state (λ i. h (suc (suc i))) refl e
+state_only (suc (suc zero) ∷ suc zero ∷ bytes) state h e = placed_only bytes (state_number bytes) state (λ i. h (suc (suc i))) refl e
 
-pub are_read : AreRead
+pub are_read : StatesAreRead
 are_read = record { again = state_again; only = state_only }

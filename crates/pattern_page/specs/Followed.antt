@@ -4,13 +4,13 @@ use Rattle.term_core.specs.declared.term.Triple.{Triple}
 use Rattle.term_core.specs.declared.pattern.Pattern.{Pattern}
 use Rattle.term_core.specs.Mappings.{Name}
 use Rattle.plan_tree.specs.Trace.{Plan, steps}
-use Rattle.plan_tree.specs.Pages.{Page, IsNext, IsPage, IsRun, walked, rows_in, steps_in, next_length, longest_in}
+use Rattle.plan_tree.specs.Pages.{Page, IsNext, IsPage, IsRun, walked, rows_in, steps_in, next_length, longest_plan_in}
 use Rattle.pattern_page.specs.declared.page.Page as code_page
 use Rattle.pattern_page.specs.declared.page.PageFault.{PageFault}
 use Rattle.pattern_page.specs.declared.page.PageFault.TheVariants as faults
 use Rattle.pattern_page.specs.declared.follow.Counts.{Counts}
 use Rattle.pattern_page.specs.declared.follow.Walk.{Walk}
-use Rattle.pattern_page.specs.Part.{part_text, part_plan}
+use Rattle.pattern_page.specs.Part.{select_all_text, part_plan}
 use Rattle.pattern_page.specs.Results.{line}
 use Rattle.pattern_page.specs.PagesOf.{page_of}
 
@@ -21,7 +21,7 @@ next_in walk = option_map (λ v. v.items) walk.next
 -- a page that begins with these bytes, or with none, begins after n entries
 abbrev pub Begins : List Triple → Pattern → ℕ → Option (List ℕ) → Type 0
 Begins D pattern n None = n ≡ 0
-Begins D pattern n (Some bytes) = IsNext D (part_plan pattern) (part_text pattern) n (Some bytes)
+Begins D pattern n (Some bytes) = IsNext D (part_plan pattern) (select_all_text pattern) n (Some bytes)
 
 -- the counts with a page more
 pub record AreMore (old new : Counts) (page : Page) : Type 0 where
@@ -32,7 +32,7 @@ pub record AreMore (old new : Counts) (page : Page) : Type 0 where
 -- one page more was given
 pub record IsPaged (D : List Triple) (pattern : Pattern) (quantum : ℕ) (names : List Name) (old new : Walk) (before after : List ℕ) (more : Bool) : Type 0 where
   pub page : Page
-  pub page_is : IsPage D (part_plan pattern) (part_text pattern) old.counts.steps quantum page
+  pub page_is : IsPage D (part_plan pattern) (select_all_text pattern) old.counts.steps quantum page
   pub counts_are : AreMore old.counts new.counts page
   pub lines_are : after ≡ before ++ flat_map (line names) page.rows
   pub next_is : next_in new ≡ page.next
@@ -40,7 +40,7 @@ pub record IsPaged (D : List Triple) (pattern : Pattern) (quantum : ℕ) (names 
 
 -- the page of the place was given, or it was refused, but not by its bytes
 abbrev pub IsTurned : List Triple → Pattern → ℕ → ℕ → Result code_page.Page PageFault → Type 0
-IsTurned D pattern n quantum (Ok page) = IsPage D (part_plan pattern) (part_text pattern) n quantum (page_of page)
+IsTurned D pattern n quantum (Ok page) = IsPage D (part_plan pattern) (select_all_text pattern) n quantum (page_of page)
 IsTurned D pattern n quantum (Err faults.Plan) = ⊥
 IsTurned D pattern n quantum (Err (faults.Store fault)) = Unit {0}
 IsTurned D pattern n quantum (Err faults.Memory) = Unit {0}
@@ -62,13 +62,13 @@ IsFront D plan text quanta k m (page ∷ pages) n =
 pub record AreOf (names : List Name) (pages : List Page) (counts : Counts) (before after : List ℕ) : Type 0 where
   pub pages_are : counts.pages ≡ length pages
   pub steps_are : counts.steps ≡ steps_in pages
-  pub longest_are : counts.longest ≡ longest_in pages
+  pub longest_are : counts.longest ≡ longest_plan_in pages
   pub lines_are : after ≡ before ++ flat_map (line names) (rows_in pages)
 
 -- so many pages were given, each of at least one step
 pub record AreGiven (D : List Triple) (pattern : Pattern) (quanta : List ℕ) (names : List Name) (count : ℕ) (walk : Walk) (before after : List ℕ) : Type 0 where
   pub pages : List Page
-  pub front : IsFront D (part_plan pattern) (part_text pattern) (walked quanta) 0 0 pages walk.counts.steps
+  pub front : IsFront D (part_plan pattern) (select_all_text pattern) (walked quanta) 0 0 pages walk.counts.steps
   pub count_is : length pages ≡ count
   pub few : count ≤ walk.counts.steps
   pub are : AreOf names pages walk.counts before after
@@ -81,7 +81,7 @@ pub record IsWalked (D : List Triple) (pattern : Pattern) (quanta : List ℕ) (n
 -- all pages were given, under a list of quanta that is walked round: how many pages and steps there were, how long the longest suspended plan was, and the lines of the rows
 pub record IsFollowed (D : List Triple) (pattern : Pattern) (quanta : List ℕ) (names : List Name) (counts : Counts) (before after : List ℕ) : Type 0 where
   pub pages : List Page
-  pub run : IsRun D (part_plan pattern) (part_text pattern) (walked quanta) 0 0 pages
+  pub run : IsRun D (part_plan pattern) (select_all_text pattern) (walked quanta) 0 0 pages
   pub are : AreOf names pages counts before after
 
 -- all pages were given, or one was refused, but not by its bytes

@@ -21,9 +21,9 @@ state_of (states.At ids) = at_state ids
 state_of states.Closing = closing_state
 
 -- four bytes are a number, the highest first
-abbrev pub number_at : List ℕ → Option (ℕ × List ℕ)
-number_at (a ∷ b ∷ c ∷ d ∷ rest) = Some (from_be_bytes w32 (a ∷ b ∷ c ∷ d ∷ []), rest)
-number_at bytes = None
+abbrev pub state_number : List ℕ → Option (ℕ × List ℕ)
+state_number (a ∷ b ∷ c ∷ d ∷ rest) = Some (from_be_bytes w32 (a ∷ b ∷ c ∷ d ∷ []), rest)
+state_number bytes = None
 
 -- a number and the bytes after it, as the code holds them
 abbrev pub seen_number : Option (ℕ × Bor (List ℕ)) → Option (ℕ × List ℕ)
@@ -36,16 +36,16 @@ last_at s p (Some (o, [])) = Some (record { s = s; p = p; o = o })
 last_at s p found = None
 
 abbrev pub second_at : ℕ → Option (ℕ × List ℕ) → Option IdTriple
-second_at s (Some (p, rest)) = last_at s p (number_at rest)
+second_at s (Some (p, rest)) = last_at s p (state_number rest)
 second_at s None = None
 
 abbrev pub first_at : Option (ℕ × List ℕ) → Option IdTriple
-first_at (Some (s, rest)) = second_at s (number_at rest)
+first_at (Some (s, rest)) = second_at s (state_number rest)
 first_at None = None
 
 -- the triple of twelve bytes, subject first
 abbrev pub ids_at : List ℕ → Option IdTriple
-ids_at bytes = first_at (number_at bytes)
+ids_at bytes = first_at (state_number bytes)
 
 -- what stands behind the place of the table: 0, or where the row was given 1, or 2 and a triple
 abbrev pub inner_at : ℕ → List ℕ → Option State
@@ -61,7 +61,7 @@ placed_at None = None
 
 -- the state that the bytes are: a join, of a table with its place
 abbrev pub state_at : List ℕ → Option State
-state_at (suc (suc zero) ∷ suc zero ∷ bytes) = placed_at (number_at bytes)
+state_at (suc (suc zero) ∷ suc zero ∷ bytes) = placed_at (state_number bytes)
 state_at bytes = None
 
 -- the numbers fit into four bytes
@@ -82,6 +82,6 @@ IsSmallState (states.At ids) = AreSmall ids
 IsSmallState states.Closing = Unit {0}
 
 -- a state's bytes are read as that state, and no other bytes are
-pub record AreRead : Type 0 where
+pub record StatesAreRead : Type 0 where
   pub again : (state : code.State) → IsSmallState state → state_at (state_bytes (state_of state)) ≡ Some (state_of state)
   pub only : (bytes : List ℕ) (state : State) → AreBytes bytes → state_at bytes ≡ Some state → bytes ≡ state_bytes state

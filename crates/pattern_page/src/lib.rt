@@ -4,8 +4,6 @@
 mod counts;
 mod follow;
 mod page;
-#[cfg(test)]
-mod page_tests;
 mod state;
 mod tsv;
 

@@ -8,14 +8,14 @@ ghost use Rattle.term_core.specs.declared.term.Triple.{Triple};
 ghost use Rattle.term_core.specs.declared.pattern.IdTriple.{IdTriple as Ids};
 ghost use Rattle.term_core.specs.Mappings.{value};
 ghost use Rattle.sage_outside.specs.Causes.{Rose};
-ghost use Rattle.sparql_tree.specs.Bgp.{label_name, position_of};
+ghost use Rattle.term_core.specs.Patterns.{label_name, position_of};
 ghost use Rattle.plan_tree.specs.Trace.{put as put_name, bind_at, rows_of, steps};
-ghost use Rattle.triple_table.specs.Table.{IsBelow, term_at};
+ghost use Rattle.store_image.specs.Table.{IsBelow, term_numbered};
 ghost use Rattle.triple_store.specs.Stores.{View, IsKept, IsShown, IsStoreOf};
-ghost use Rattle.triple_store.specs.Ranges.{IsWithin as IsInStore};
-ghost use Rattle.pattern_page.specs.Part.{place_text, part_text, part_plan};
+ghost use Rattle.triple_store.specs.Ranges.{IsInStore};
+ghost use Rattle.pattern_page.specs.Part.{pattern_place_text, select_all_text, part_plan};
 ghost use Rattle.pattern_page.specs.StateReading.{state_of};
-ghost use Rattle.pattern_page.specs.PagesOf.{IsPart, IsSeen, IsAt, seen, entry_at, GivesAt, IsMore, cursor_state, saved_at, spelled_by, IsBehind, IsNamed, IsRead, IsPlaced, IsRefusal, MayRefuse, Loads, Starts, Gives, IsStretch, IsPageFrom, Answers};
+ghost use Rattle.pattern_page.specs.PagesOf.{IsPart, IsSeen, IsAt, part_seen, range_entry, GivesAt, IsMore, cursor_state, saved_at, spelled_by, IsBehind, IsNamed, IsRead, IsPlaced, IsRefusal, MayRefuse, Loads, Starts, GivesStep, IsStretchFrom, IsPageFrom, AnswersPage};
 
 use crate::state::{State, parse_state, push_state};
 use nt_text::push_term;
@@ -71,7 +71,6 @@ impl From<StoreFault> for PageFault {
 }
 
 impl From<Memory> for PageFault {
-    ghost use Rattle.std.specs.Prelude.{◌≡◌};
     ghost use Rattle.pattern_page.specs.declared.page.PageFault.TheVariants as faults;
 
     ghost from_gives = { λ x y. y ≡ faults.Memory };
@@ -112,7 +111,7 @@ struct Stretch {
 }
 
 fn push_place(out: &mut Vec<u8>, place: &Place) -> Result<(), Memory>
-    ensures { OnOk result (out.new.items ≡ out.old.items ++ place_text place.now) }
+    ensures { OnOk result (out.new.items ≡ out.old.items ++ pattern_place_text place.now) }
 {
     match place {
         Place::Var(name) => {
@@ -131,7 +130,7 @@ fn push_place(out: &mut Vec<u8>, place: &Place) -> Result<(), Memory>
 
 /// The text of the part: the query that selects all variables of the pattern.
 fn write_part(alloc: Global, pattern: &Pattern) -> Result<Vec<u8>, Memory>
-    ensures { IfOk result (λ text. text.items ≡ part_text pattern.now) }
+    ensures { IfOk result (λ text. text.items ≡ select_all_text pattern.now) }
 {
     let mut out = Vec::from_slice(alloc, b"SELECT * { ")?;
     push_place(&mut out, &pattern.subject)?;
@@ -144,7 +143,7 @@ fn write_part(alloc: Global, pattern: &Pattern) -> Result<Vec<u8>, Memory>
 }
 
 fn text_id(alloc: Global, pattern: &Pattern) -> Result<[u8; 32], Memory>
-    ensures { IfOk result (λ name. name ≡ sha256 (part_text pattern.now)) }
+    ensures { IfOk result (λ name. name ≡ sha256 (select_all_text pattern.now)) }
 {
     let text = write_part(alloc, pattern)?;
     let mut hasher = Sha256::new();
@@ -196,7 +195,7 @@ fn bind_name<B: Blocks>(
     ensures kept { IsKept store.old store.new }
     ensures refused { IfErr result (λ e. IsRefusal e store.old store.new) }
     ensures found { (terms : List Terms) (ids : List Ids) → IsShown store.old terms ids
-        → IfOk result (λ r. r ≡ put_name row name (term_at terms id) (value row name)) }
+        → IfOk result (λ r. r ≡ put_name row name (term_numbered terms id) (value row name)) }
 {
     let term = store.term(alloc, id)?;
     Ok(put(alloc, row, name, &term)?)
@@ -215,7 +214,7 @@ fn bind<B: Blocks>(
     ensures kept { IsKept store.old store.new }
     ensures refused { IfErr result (λ e. IsRefusal e store.old store.new) }
     ensures found { (terms : List Terms) (ids : List Ids) → IsShown store.old terms ids
-        → IfOk result (λ r. r ≡ bind_at (position_of place.now) (term_at terms id) row) }
+        → IfOk result (λ r. r ≡ bind_at (position_of place.now) (term_numbered terms id) row) }
 {
     match row {
         None => Ok(None),
@@ -300,7 +299,7 @@ impl<'p> Part<'p> {
         ensures kept { IsKept store.old store.new }
         ensures refused { IfErr result (λ e. IsRefusal e store.old store.new) }
         ensures found { (terms : List Terms) (ids : List Ids) → IsSeen store.old self.now terms ids
-            → IfOk result (λ row. row ≡ entry_at (seen self.now terms ids) triple) }
+            → IfOk result (λ row. row ≡ range_entry (part_seen self.now terms ids) triple) }
     {
         let row = Some(Row::empty(alloc));
         let row = bind(alloc, store, &self.pattern.subject, triple.s, row)?;
@@ -320,7 +319,7 @@ impl<'p> Part<'p> {
         ensures refused { IfErr result (λ e. IsRefusal e store.old store.new) }
         ensures within { IfOk result (λ step. IsAt self.now step.cursor) }
         ensures found { (terms : List Terms) (ids : List Ids) → IsSeen store.old self.now terms ids
-            → IfOk result (GivesAt (seen self.now terms ids) place) }
+            → IfOk result (GivesAt (part_seen self.now terms ids) place) }
     {
         if place < self.range.len() {
             let triple = store.triple(&self.range, place)?;
@@ -350,7 +349,7 @@ impl<'p> Part<'p> {
         ensures refused { IfErr result (λ e. IsRefusal e store.old store.new) }
         ensures within { IfOk result (λ step. IfSome step (λ x. IsAt self.now x.cursor)) }
         ensures found { (terms : List Terms) (ids : List Ids) → IsSeen store.old self.now terms ids
-            → IfOk result (Gives (seen self.now terms ids) cursor) }
+            → IfOk result (GivesStep (part_seen self.now terms ids) cursor) }
     {
         match cursor {
             Cursor::Fresh => Ok(Some(Step {
@@ -385,7 +384,7 @@ impl<'p> Part<'p> {
         ensures within { OnOk result (IsAt self.now stretch.new.cursor) }
         ensures counted { OnOk result (stretch.new.steps ≤ stretch.old.steps + 1) }
         ensures found { (terms : List Terms) (ids : List Ids) → IsSeen store.old self.now terms ids
-            → IfOk result (IsMore (seen self.now terms ids) stretch.old stretch.new) }
+            → IfOk result (IsMore (part_seen self.now terms ids) stretch.old stretch.new) }
     {
         match self.step(alloc, store, stretch.cursor)? {
             None => Ok(false),
@@ -412,7 +411,7 @@ impl<'p> Part<'p> {
         ensures refused { IfErr result (λ e. IsRefusal e store.old store.new) }
         ensures within { IfOk result (λ stretch. IsAt self.now stretch.cursor) }
         ensures found { (terms : List Terms) (ids : List Ids) → IsSeen store.old self.now terms ids
-            → IfOk result (IsStretch (seen self.now terms ids) start quantum) }
+            → IfOk result (IsStretchFrom (part_seen self.now terms ids) start quantum) }
     {
         let mut stretch = Stretch {
             rows: Items::new(alloc),
@@ -438,7 +437,7 @@ impl<'p> Part<'p> {
         ensures kept { IsKept store.old store.new }
         ensures refused { IfErr result (λ e. IsRefusal (PageFault.Store e) store.old store.new) }
         ensures found { (terms : List Terms) (ids : List Ids) → IsSeen store.old self.now terms ids
-            → IfOk result (λ state. option_map state_of state ≡ cursor_state (seen self.now terms ids) cursor) }
+            → IfOk result (λ state. option_map state_of state ≡ cursor_state (part_seen self.now terms ids) cursor) }
     {
         match cursor {
             Cursor::Fresh => Ok(Some(State::Fresh)),
@@ -477,7 +476,7 @@ impl<'p> Part<'p> {
         ensures kept { IsKept store.old store.new }
         ensures refused { IfErr result (λ e. IsRefusal e store.old store.new) }
         ensures found { (terms : List Terms) (ids : List Ids) → IsSeen store.old self.now terms ids
-            → IfOk result (λ next. option_map (λ v. v.items) next ≡ saved_at (seen self.now terms ids) cursor) }
+            → IfOk result (λ next. option_map (λ v. v.items) next ≡ saved_at (part_seen self.now terms ids) cursor) }
     {
         let state = self.state(store, cursor)?;
         Ok(self.spell(alloc, state)?)
@@ -511,7 +510,7 @@ impl<'p> Part<'p> {
         ensures refused { IfErr result (λ e. IsRefusal (PageFault.Store e) store.old store.new) }
         ensures within { IfOk result (λ cursor. IfSome cursor (IsAt self.now)) }
         ensures found { (terms : List Terms) (ids : List Ids) → IsSeen store.old self.now terms ids
-            → IfOk result (IsPlaced (seen self.now terms ids) state) }
+            → IfOk result (IsPlaced (part_seen self.now terms ids) state) }
     {
         match state {
             State::Fresh => Ok(Some(Cursor::Fresh)),
@@ -535,7 +534,7 @@ impl<'p> Part<'p> {
         ensures refused { IfErr result (λ e. IsRefusal (PageFault.Store e) store.old store.new) }
         ensures within { IfOk result (λ cursor. IfSome cursor (IsAt self.now)) }
         ensures found { (terms : List Terms) (ids : List Ids) → IsSeen store.old self.now terms ids
-            → IfOk result (Loads (seen self.now terms ids) bytes.now) }
+            → IfOk result (Loads (part_seen self.now terms ids) bytes.now) }
     {
         match self.read(bytes) {
             None => Ok(None),
@@ -554,7 +553,7 @@ impl<'p> Part<'p> {
         ensures refused { IfErr result (λ e. IsRefusal (PageFault.Store e) store.old store.new) }
         ensures within { IfOk result (λ cursor. IfSome cursor (IsAt self.now)) }
         ensures found { (terms : List Terms) (ids : List Ids) → IsSeen store.old self.now terms ids
-            → IfOk result (Starts (seen self.now terms ids) (option_map (λ b. b.now) next.entry)) }
+            → IfOk result (Starts (part_seen self.now terms ids) (option_map (λ b. b.now) next.entry)) }
     {
         match next {
             None => Ok(Some(Cursor::Fresh)),
@@ -575,7 +574,7 @@ impl<'p> Part<'p> {
         ensures kept { IsKept store.old store.new }
         ensures refused { IfErr result (λ e. IsRefusal e store.old store.new) }
         ensures found { (terms : List Terms) (ids : List Ids) → IsSeen store.old self.now terms ids
-            → IfOk result (IsPageFrom (seen self.now terms ids) start quantum) }
+            → IfOk result (IsPageFrom (part_seen self.now terms ids) start quantum) }
     {
         let stretch = self.run(alloc, store, start, quantum)?;
         let next = self.save(alloc, store, stretch.cursor)?;
@@ -603,7 +602,7 @@ impl<'p> Part<'p> {
         ensures kept { IsKept store.old store.new }
         ensures refused { IfErr result (λ e. MayRefuse e store.old store.new) }
         ensures page { (D : List Triple) (pattern : Pattern) → IsPart D pattern store.old self.now
-            → Answers D pattern (option_map (λ b. b.now) next.entry) quantum result }
+            → AnswersPage D pattern (option_map (λ b. b.now) next.entry) quantum result }
     {
         match self.start(store, next)? {
             None => Err(PageFault::Plan),

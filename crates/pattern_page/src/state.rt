@@ -1,8 +1,9 @@
 //! The states of a part's plan, and their bytes.
 
 ghost use Rattle.std.specs.Prelude.{◌≡◌, ◌++◌, [], ◌∷◌, OnOk, option_map};
-ghost use Rattle.plan_tree.specs.Spelling.{number_bytes, ids_bytes, state_bytes};
-ghost use Rattle.pattern_page.specs.StateReading.{state_of, number_at, seen_number, ids_at, inner_at, state_at, AreRead};
+ghost use Rattle.term_core.specs.Ids.{number_bytes, ids_bytes};
+ghost use Rattle.plan_tree.specs.Spelling.{state_bytes};
+ghost use Rattle.pattern_page.specs.StateReading.{state_of, state_number, seen_number, ids_at, inner_at, state_at, StatesAreRead};
 
 use term_core::{IdTriple, Memory};
 
@@ -63,7 +64,7 @@ pub fn push_state(out: &mut Vec<u8>, state: &State) -> Result<(), Memory>
 }
 
 fn read_number(bytes: &[u8]) -> Option<(u32, &[u8])>
-    ensures { seen_number result ≡ number_at bytes.now }
+    ensures { seen_number result ≡ state_number bytes.now }
 {
     match bytes {
         [a, b, c, d, rest @ ..] => Some((u32::from_be_bytes([*a, *b, *c, *d]), rest)),
@@ -118,5 +119,5 @@ pub fn parse_state(bytes: &[u8]) -> Option<State>
 
 /// The law of `parse_state`: the bytes of a state are read as that state, and no other bytes are.
 pub fn states_are_read()
-    ensures { AreRead }
+    ensures { StatesAreRead }
 {}

@@ -2,7 +2,7 @@
 
 ghost use Rattle.std.specs.Prelude.{◌≡◌, ◌++◌, ◌∷◌, flat_map, OnOk};
 ghost use Rattle.term_core.specs.Mappings.{value};
-ghost use Rattle.pattern_page.specs.Results.{tab_escaped, cell, tabbed, header, line};
+ghost use Rattle.pattern_page.specs.Results.{tab_escaped, tsv_cell, tabbed, header, line};
 
 use nt_text::push_term;
 use term_core::{Memory, Row, Term, Text};
@@ -23,7 +23,7 @@ fn push_escaped(out: &mut Vec<u8>, text: &[u8]) -> Result<(), Memory>
 
 /// The text of a term, with each tab written `\t`.
 fn push_value(out: &mut Vec<u8>, term: &Term) -> Result<(), Memory>
-    ensures { OnOk result (out.new.items ≡ out.old.items ++ cell (Some term.now)) }
+    ensures { OnOk result (out.new.items ≡ out.old.items ++ tsv_cell (Some term.now)) }
 {
     let start = out.len();
     push_term(out, term)?;
@@ -35,7 +35,7 @@ fn push_value(out: &mut Vec<u8>, term: &Term) -> Result<(), Memory>
 }
 
 fn push_cell(out: &mut Vec<u8>, row: &Row, name: &Text) -> Result<(), Memory>
-    ensures { OnOk result (out.new.items ≡ out.old.items ++ cell (value row.now name.now)) }
+    ensures { OnOk result (out.new.items ≡ out.old.items ++ tsv_cell (value row.now name.now)) }
 {
     match row.get(name.bytes()) {
         Some(term) => push_value(out, term),
@@ -44,7 +44,7 @@ fn push_cell(out: &mut Vec<u8>, row: &Row, name: &Text) -> Result<(), Memory>
 }
 
 fn push_more_cells(out: &mut Vec<u8>, row: &Row, names: &[Text]) -> Result<(), Memory>
-    ensures { OnOk result (out.new.items ≡ out.old.items ++ flat_map (λ name. 9 ∷ cell (value row.now name)) names.now) }
+    ensures { OnOk result (out.new.items ≡ out.old.items ++ flat_map (λ name. 9 ∷ tsv_cell (value row.now name)) names.now) }
 {
     for name in names {
         out.push(b'\t')?;
@@ -54,7 +54,7 @@ fn push_more_cells(out: &mut Vec<u8>, row: &Row, names: &[Text]) -> Result<(), M
 }
 
 fn push_cells(out: &mut Vec<u8>, row: &Row, names: &[Text]) -> Result<(), Memory>
-    ensures { OnOk result (out.new.items ≡ out.old.items ++ tabbed (λ name. cell (value row.now name)) names.now) }
+    ensures { OnOk result (out.new.items ≡ out.old.items ++ tabbed (λ name. tsv_cell (value row.now name)) names.now) }
 {
     match names {
         [] => Ok(()),

@@ -1,7 +1,7 @@
 -- An area of an image: what stands before it and behind it.
 use Rattle.std.proofs.Common.{◌≡◌, ℕ, ◌+◌, ◌-◌, ◌*◌, ◌/◌, ◌≤◌, ◌++◌, List, [], length, take, drop, refl, sym, ap, ◌∙◌, arith, append_assoc, length-append}
 use Rattle.std.proofs.lemmas.List.{take_at, drop_at, take-take, append-nil}
-use Rattle.term_dict.specs.Areas.{payloads}
+use Rattle.sage_outside.specs.Areas.{payloads}
 use Rattle.store_image.specs.Image.{blocks_of, padded}
 use Rattle.store_image.proofs.Padding.{length_padded, take_padded, payloads_whole}
 

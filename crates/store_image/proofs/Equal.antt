@@ -1,14 +1,14 @@
 -- The image depends on the set of the triples alone.
 use Rattle.std.proofs.Common.{◌≡◌, ℕ, List, sym, ap, ◌∙◌}
 use Rattle.term_core.specs.declared.term.Triple.{Triple}
-use Rattle.sparql_tree.specs.Laws.{HaveSame}
-use Rattle.plan_tree.specs.Spelling.{data_id}
-use Rattle.plan_tree.proofs.Sets.{data_id_same}
-use Rattle.triple_table.proofs.Sets.{terms_same, numbers_same}
-use Rattle.store_image.specs.Image.{image_of, IsImage}
+use Rattle.term_core.specs.Bags.{HaveSame}
+use Rattle.term_core.specs.Data.{data_id}
+use Rattle.term_core.proofs.Sets.{data_id_same}
+use Rattle.store_image.proofs.Sets.{terms_same, numbers_same}
+use Rattle.store_image.specs.Image.{store_bytes, IsImage}
 
 pub images_same : (D E : List Triple) (x y : List ℕ) → HaveSame D E → IsImage D x → IsImage E y → x ≡ y
 images_same D E x y same d e =
     let terms = terms_same D E d.terms e.terms d.ids e.ids same d.table e.table in
     let ids = numbers_same D E d.terms e.terms d.ids e.ids same d.table e.table in
-    d.bytes ∙ ap (λ ts. image_of ts d.ids (data_id D)) terms ∙ ap (λ is. image_of e.terms is (data_id D)) ids ∙ ap (image_of e.terms e.ids) (data_id_same D E same) ∙ sym e.bytes
+    d.bytes ∙ ap (λ ts. store_bytes ts d.ids (data_id D)) terms ∙ ap (λ is. store_bytes e.terms is (data_id D)) ids ∙ ap (store_bytes e.terms e.ids) (data_id_same D E same) ∙ sym e.bytes

@@ -4,7 +4,7 @@ use Rattle.std.specs.Prelude.{codes}
 use Rattle.std.proofs.lemmas.List.{take_at}
 use Rattle.std.proofs.lemmas.Nat.{from_be_bytes-to_be_bytes_4}
 use Rattle.store_image.specs.declared.header.Header.{Header}
-use Rattle.store_image.specs.Header.{number_at, IsHeader, IsWithin, header_bytes}
+use Rattle.store_image.specs.Header.{header_number, IsHeader, AreWithinFile, header_bytes}
 use Rattle.store_image.specs.Image.{padded}
 use Rattle.store_image.proofs.Padding.{length_padded}
 
@@ -17,20 +17,20 @@ module _ (h : Header) (named : length h.data_id ≡ 32) where
   one_block = omega (arith, length_padded (header_bytes h), length_header)
 
   -- the number at a place is the number that was written there
-  blocks_at : h.blocks < 2 ^ 32 → h.blocks ≡ number_at 8 (padded (header_bytes h))
-  unfolding header_bytes padded number_at
+  blocks_at : h.blocks < 2 ^ 32 → h.blocks ≡ header_number 8 (padded (header_bytes h))
+  unfolding header_bytes padded header_number
   blocks_at fits = sym (from_be_bytes-to_be_bytes_4 h.blocks fits)
 
-  terms_at : h.terms < 2 ^ 32 → h.terms ≡ number_at 12 (padded (header_bytes h))
-  unfolding header_bytes padded number_at
+  terms_at : h.terms < 2 ^ 32 → h.terms ≡ header_number 12 (padded (header_bytes h))
+  unfolding header_bytes padded header_number
   terms_at fits = sym (from_be_bytes-to_be_bytes_4 h.terms fits)
 
-  triples_at : h.triples < 2 ^ 32 → h.triples ≡ number_at 16 (padded (header_bytes h))
-  unfolding header_bytes padded number_at
+  triples_at : h.triples < 2 ^ 32 → h.triples ≡ header_number 16 (padded (header_bytes h))
+  unfolding header_bytes padded header_number
   triples_at fits = sym (from_be_bytes-to_be_bytes_4 h.triples fits)
 
-  longest_at : h.longest < 2 ^ 32 → h.longest ≡ number_at 20 (padded (header_bytes h))
-  unfolding header_bytes padded number_at
+  longest_at : h.longest < 2 ^ 32 → h.longest ≡ header_number 20 (padded (header_bytes h))
+  unfolding header_bytes padded header_number
   longest_at fits = sym (from_be_bytes-to_be_bytes_4 h.longest fits)
 
   mark_at : take 8 (padded (header_bytes h)) ≡ codes "SAGESTO0"
@@ -41,7 +41,7 @@ module _ (h : Header) (named : length h.data_id ≡ 32) where
   unfolding header_bytes padded
   name_at = sym (take_at h.data_id _ 32 named)
 
-  pub header_back : h.blocks < 2 ^ 32 → IsWithin h h.blocks → IsHeader (padded (header_bytes h)) h.blocks h
+  pub header_back : h.blocks < 2 ^ 32 → AreWithinFile h h.blocks → IsHeader (padded (header_bytes h)) h.blocks h
   header_back fits within = record {
     mark = mark_at;
     blocks = blocks_at fits;
@@ -49,11 +49,7 @@ module _ (h : Header) (named : length h.data_id ≡ 32) where
     triples = triples_at (omega (arith, within.few));
     longest = longest_at (omega (arith, within.short));
     data_name = name_at;
-    counted = refl;
-    few = within.few;
-    named = within.named;
-    short = within.short;
-    room = within.room;
+    within = within;
   }
 
 -- the block determines the header

@@ -1,33 +1,33 @@
 -- The image of the data holds the data.
 use Rattle.std.proofs.Common.{◌≡◌, ℕ, zero, suc, ◌+◌, ◌-◌, ◌*◌, ◌/◌, ◌^◌, ◌<◌, ◌≤◌, ◌++◌, List, length, take, drop, refl, sym, ap, ◌∙◌, subst, inl, arith, length-append}
-use Rattle.std.specs.Prelude.{flat_map}
+use Rattle.std.specs.Prelude.{flat_map, All}
 use Rattle.std.proofs.lemmas.List.{take_at}
 use Rattle.sha2.proofs.Facts256.{length-sha256}
 use Rattle.term_core.specs.declared.term.Term.{Term}
 use Rattle.term_core.specs.declared.term.Triple.{Triple}
 use Rattle.term_core.specs.declared.pattern.IdTriple.{IdTriple}
-use Rattle.term_core.specs.Order.{size_of}
+use Rattle.term_core.specs.Order.{size_of, IsAllowed}
+use Rattle.term_core.specs.Spelling.{AreSpelled}
 use Rattle.term_core.specs.Bags.{In}
-use Rattle.sparql_tree.specs.Bgp.{parts}
+use Rattle.term_core.specs.Data.{parts, data_id}
 use Rattle.sage_outside.specs.Blocks.{block_at}
-use Rattle.plan_tree.specs.Index.{Index, by_subject, by_predicate, by_object}
-use Rattle.plan_tree.specs.Spelling.{data_id}
-use Rattle.plan_tree.proofs.Ranked.{In-slice_get}
-use Rattle.term_dict.specs.Areas.{payloads}
+use Rattle.term_core.specs.Index.{Index, by_subject, by_predicate, by_object}
+use Rattle.term_core.proofs.Ranked.{In-slice_get}
+use Rattle.sage_outside.specs.Areas.{payloads}
 use Rattle.term_dict.specs.Built.{records_of, AreTexts, IsLaidOut}
 use Rattle.term_dict.proofs.Layouts.{laid_out_holds}
 use Rattle.btree_build.specs.Lists.{list_bytes, list_image, blocks_for}
 use Rattle.btree_scan.specs.Entries.{Lists}
-use Rattle.btree_scan.specs.Written.{AreIds}
+use Rattle.store_image.specs.Written.{AreIds}
 use Rattle.btree_scan.specs.declared.tree.Tree.{Tree}
-use Rattle.btree_scan.proofs.Written.{lists_from_written}
-use Rattle.triple_table.specs.Table.{IsBelow, IsTable}
-use Rattle.triple_table.specs.Keys.{order_of, ids_of_key, keys_by}
-use Rattle.triple_table.proofs.Keys.{sorted-keys_by, from_In-keys_by, length-keys_by}
+use Rattle.store_image.proofs.Written.{lists_from_written}
+use Rattle.store_image.specs.Table.{IsBelow, IsTable}
+use Rattle.store_image.specs.Keys.{index_numbered, ids_of_key, keys_by}
+use Rattle.store_image.proofs.Keys.{sorted-keys_by, from_In-keys_by, length-keys_by}
 use Rattle.store_image.specs.declared.header.Header.{Header}
-use Rattle.store_image.specs.Header.{place_blocks, list_blocks, dict_of, tree_of, IsHeader, IsWithin, header_bytes}
+use Rattle.store_image.specs.Header.{place_blocks, list_blocks, dict_of, tree_of, IsHeader, AreWithinFile, header_bytes}
 use Rattle.store_image.specs.Holds.{Holds}
-use Rattle.store_image.specs.Image.{blocks_of, padded, place_bytes, header_of, image_of}
+use Rattle.store_image.specs.Image.{blocks_of, padded, place_bytes, header_of, store_bytes}
 use Rattle.store_image.proofs.Padding.{length_padded, in_blocks_padded}
 use Rattle.store_image.proofs.Areas.{Begins, at_first, at_end, behind_other, within, area_begins, blocks_begin}
 use Rattle.store_image.proofs.Sizes.{length_list, length_places, records_short, longest_short, no_more, three_each}
@@ -40,6 +40,7 @@ key_small by_predicate n key few b = record { s = omega (arith, b.p); p = omega 
 key_small by_object n key few b = record { s = omega (arith, b.o); p = omega (arith, b.s); o = omega (arith, b.p) }
 
 module _ (L : List Triple) (terms : List Term) (ids : List IdTriple) (table : IsTable L terms ids) (few : length L ≤ 4194303)
+    (allowed : All IsAllowed L) (spelled : All AreSpelled L)
     (short : (t : Term) → In (flat_map parts L) t → size_of t ≤ 262144) (texts : AreTexts terms) where
   abbrev h : Header
   h = header_of terms ids (data_id L)
@@ -48,7 +49,7 @@ module _ (L : List Triple) (terms : List Term) (ids : List IdTriple) (table : Is
   keys x = keys_by x ids
 
   abbrev all : List ℕ
-  all = image_of terms ids (data_id L)
+  all = store_bytes terms ids (data_id L)
 
   named : length h.data_id ≡ 32
   named = length-sha256 _
@@ -129,7 +130,7 @@ module _ (L : List Triple) (terms : List Term) (ids : List IdTriple) (table : Is
         long_places,
       )
 
-  limits : IsWithin h h.blocks
+  limits : AreWithinFile h h.blocks
   limits = record {
     counted = refl;
     few = few_ids;
@@ -166,7 +167,7 @@ module _ (L : List Triple) (terms : List Term) (ids : List IdTriple) (table : Is
         blocks = subst (λ l. take (length l) (drop (4096 * tree.first) all) ≡ l) (sym image) (blocks_begin tree.first (list_bytes (keys x)) all begins);
       })
 
-  lists : (order : ℕ) → order ≤ 2 → Lists (tree_of h order) (keys_by (order_of order) ids) all
+  lists : (order : ℕ) → order ≤ 2 → Lists (tree_of h order) (keys_by (index_numbered order) ids) all
   lists zero le = listed by_subject (tree_of h 0) refl refl subjects_begin
   lists (suc zero) le = listed by_predicate (tree_of h 1) refl refl predicates_begin
   lists (suc (suc zero)) le = listed by_object (tree_of h 2) refl refl objects_begin
@@ -177,6 +178,9 @@ module _ (L : List Triple) (terms : List Term) (ids : List IdTriple) (table : Is
     header = h;
     terms = terms;
     ids = ids;
+    allowed = allowed;
+    spelled = spelled;
+    short = short;
     table = table;
     few = few_blocks;
     whole = whole;

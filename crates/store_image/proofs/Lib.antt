@@ -4,3 +4,12 @@ pub mod Sizes
 pub mod Headers
 pub mod Images
 pub mod Equal
+pub mod TableLists
+pub mod TableSlots
+pub mod TableOrder
+pub mod TableFound
+pub mod TableRanks
+pub mod SlotTies
+pub mod Keys
+pub mod Sets
+pub mod Written

@@ -2,8 +2,8 @@
 use Rattle.std.proofs.Common.{◌≡◌, ℕ, zero, suc, ◌+◌, ◌-◌, ◌*◌, ◌%◌, ◌<◌, ◌≤◌, ◌++◌, List, [], ◌∷◌, length, take, drop, replicate, refl, sym, ap, ◌∙◌, ⊎_elim, arith, append_assoc, length-append, length-take, length-drop}
 use Rattle.std.proofs.lemmas.List.{take_at, take-append-drop, length-replicate, append-nil}
 use Rattle.std.proofs.lemmas.Bool.{cases_lt}
-use Rattle.term_dict.specs.Areas.{payloads}
-use Rattle.term_dict.proofs.Parts.{joined}
+use Rattle.sage_outside.specs.Areas.{payloads}
+use Rattle.sage_outside.proofs.Parts.{joined}
 use Rattle.btree_build.specs.Lists.{block_with, in_blocks}
 use Rattle.store_image.specs.Image.{blocks_of, padded}
 

@@ -10,19 +10,19 @@ use Rattle.term_core.specs.OrderLaws.{terms_total}
 use Rattle.term_core.specs.Bags.{In}
 use Rattle.std.proofs.lemmas.List.{take_more, flat_map_more}
 use Rattle.term_core.proofs.Bags.{In-append_cases, In-flat_map, from_In-flat_map}
-use Rattle.sparql_tree.specs.Bgp.{parts}
-use Rattle.plan_tree.specs.Index.{by_subject, triple_cmp, in_order}
-use Rattle.plan_tree.proofs.Orders.{AreDistinct-ordered}
-use Rattle.plan_tree.proofs.Ranges.{index_total, listing_is}
+use Rattle.term_core.specs.Data.{parts}
+use Rattle.term_core.specs.Index.{by_subject, triple_cmp, in_order}
+use Rattle.term_core.proofs.Orders.{AreDistinct-ordered}
+use Rattle.term_core.proofs.Ranges.{index_total, listing_is}
 use Rattle.term_dict.specs.Records.{record_of}
 use Rattle.term_dict.specs.Built.{records_of, places_from, longest_of, AreShort}
-use Rattle.plan_tree.proofs.Ranked.{In-slice_get, slice_get-In}
+use Rattle.term_core.proofs.Ranked.{In-slice_get, slice_get-In}
 use Rattle.term_dict.proofs.Steps.{record_short}
 use Rattle.btree_build.specs.Lists.{entry_bytes, list_bytes}
-use Rattle.triple_table.specs.Table.{decode, IsTable}
-use Rattle.triple_table.proofs.TableLists.{length-mapped, In-get_or}
-use Rattle.triple_table.proofs.TableSlots.{length-parts}
-use Rattle.triple_table.proofs.Keys.{distinct_fewer}
+use Rattle.store_image.specs.Table.{decode, IsTable}
+use Rattle.store_image.proofs.TableLists.{length-mapped, In-get_or}
+use Rattle.store_image.proofs.TableSlots.{length-parts}
+use Rattle.store_image.proofs.Keys.{distinct_fewer}
 
 length_entry : (e : IdTriple) → length (entry_bytes e) ≡ 12
 unfolding entry_bytes

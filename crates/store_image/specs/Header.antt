@@ -1,7 +1,7 @@
 -- The first block of a store file, and where the areas stand that follow it.
 use Rattle.std.specs.Prelude.{◌≡◌, ℕ, ◌+◌, ◌-◌, ◌*◌, ◌/◌, ◌≤◌, List, ◌++◌, take, drop, codes}
 use Rattle.std.specs.Int.{w32, from_be_bytes}
-use Rattle.plan_tree.specs.Spelling.{number_bytes}
+use Rattle.term_core.specs.Ids.{number_bytes}
 use Rattle.term_dict.specs.declared.dict.Dict.{Dict}
 use Rattle.btree_scan.specs.declared.tree.Tree.{Tree}
 use Rattle.store_image.specs.declared.header.Header.{Header}
@@ -37,31 +37,27 @@ tree_of h order = record {
 }
 
 -- a number of four bytes at a place, the highest first
-unfoldable pub number_at : ℕ → List ℕ → ℕ
-number_at place block = from_be_bytes w32 (take 4 (drop place block))
+unfoldable pub header_number : ℕ → List ℕ → ℕ
+header_number place block = from_be_bytes w32 (take 4 (drop place block))
+
+-- the numbers are within their limits, and a file of so many blocks has room for all areas
+pub record AreWithinFile (h : Header) (count : ℕ) : Type 0 where
+  pub counted : h.blocks ≡ count
+  pub few : h.triples ≤ 4194303
+  pub named : h.terms ≤ 3 * h.triples
+  pub short : h.longest ≤ 262153
+  pub room : fixed_blocks h.terms h.triples ≤ h.blocks
 
 -- a block is the header of a file of so many blocks: the mark of the format, four numbers and the name of the data; the
 -- numbers are within their limits, and the file has room for all areas
 pub record IsHeader (block : List ℕ) (count : ℕ) (h : Header) : Type 0 where
   pub mark : take 8 block ≡ codes "SAGESTO0"
-  pub blocks : h.blocks ≡ number_at 8 block
-  pub terms : h.terms ≡ number_at 12 block
-  pub triples : h.triples ≡ number_at 16 block
-  pub longest : h.longest ≡ number_at 20 block
+  pub blocks : h.blocks ≡ header_number 8 block
+  pub terms : h.terms ≡ header_number 12 block
+  pub triples : h.triples ≡ header_number 16 block
+  pub longest : h.longest ≡ header_number 20 block
   pub data_name : h.data_id ≡ take 32 (drop 24 block)
-  pub counted : h.blocks ≡ count
-  pub few : h.triples ≤ 4194303
-  pub named : h.terms ≤ 3 * h.triples
-  pub short : h.longest ≤ 262153
-  pub room : fixed_blocks h.terms h.triples ≤ h.blocks
-
--- the numbers are within their limits, and a file of so many blocks has room for all areas
-pub record IsWithin (h : Header) (count : ℕ) : Type 0 where
-  pub counted : h.blocks ≡ count
-  pub few : h.triples ≤ 4194303
-  pub named : h.terms ≤ 3 * h.triples
-  pub short : h.longest ≤ 262153
-  pub room : fixed_blocks h.terms h.triples ≤ h.blocks
+  pub within : AreWithinFile h count
 
 -- the mark of format 0, four numbers of four bytes, the highest first (network byte order, RFC 791 appendix B), and the
 -- name of the data

@@ -4,12 +4,12 @@ use Rattle.std.specs.Int.{w64, to_be_bytes}
 use Rattle.term_core.specs.declared.term.Term.{Term}
 use Rattle.term_core.specs.declared.term.Triple.{Triple}
 use Rattle.term_core.specs.declared.pattern.IdTriple.{IdTriple}
-use Rattle.plan_tree.specs.Index.{by_subject, by_predicate, by_object}
-use Rattle.plan_tree.specs.Spelling.{data_id}
+use Rattle.term_core.specs.Index.{by_subject, by_predicate, by_object}
+use Rattle.term_core.specs.Data.{data_id}
 use Rattle.term_dict.specs.Built.{records_of, places_from, longest_of}
 use Rattle.btree_build.specs.Lists.{list_bytes}
-use Rattle.triple_table.specs.Table.{IsTable}
-use Rattle.triple_table.specs.Keys.{keys_by}
+use Rattle.store_image.specs.Table.{IsTable}
+use Rattle.store_image.specs.Keys.{keys_by}
 use Rattle.store_image.specs.declared.header.Header.{Header}
 use Rattle.store_image.specs.Header.{fixed_blocks, header_bytes}
 
@@ -43,12 +43,12 @@ areas h terms ids =
     ++ (padded (list_bytes (keys_by by_subject ids)) ++ (padded (list_bytes (keys_by by_predicate ids)) ++ padded (list_bytes (keys_by by_object ids))))))
 
 -- the bytes of a file of these terms and triples, with such a name
-abbrev pub image_of : List Term → List IdTriple → List ℕ → List ℕ
-image_of terms ids name = areas (header_of terms ids name) terms ids
+abbrev pub store_bytes : List Term → List IdTriple → List ℕ → List ℕ
+store_bytes terms ids name = areas (header_of terms ids name) terms ids
 
 -- the bytes are the image of the data, a set of triples
 pub record IsImage (L : List Triple) (image : List ℕ) : Type 0 where
   pub terms : List Term
   pub ids : List IdTriple
   pub table : IsTable L terms ids
-  pub bytes : image ≡ image_of terms ids (data_id L)
+  pub bytes : image ≡ store_bytes terms ids (data_id L)

@@ -1,3 +1,8 @@
+pub mod Table
+pub mod Numbering
+pub mod Keys
+pub mod Slots
+pub mod Written
 pub mod Header
 pub mod Image
 pub mod Holds

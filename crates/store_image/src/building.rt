@@ -1,13 +1,14 @@
 //! A store file of triples.
-ghost use Rattle.std.specs.Prelude.{◌≡◌, ◌≤◌, ◌%◌, ◌+◌, ◌++◌, length, map, flat_map, IfOk, OnOk};
-ghost use Rattle.term_core.specs.Order.{size_of};
+ghost use Rattle.std.specs.Prelude.{◌≡◌, ◌≤◌, ◌%◌, ◌+◌, ◌++◌, length, map, flat_map, All, IfOk, OnOk};
+ghost use Rattle.term_core.specs.Order.{size_of, IsAllowed};
+ghost use Rattle.term_core.specs.Spelling.{AreSpelled};
 ghost use Rattle.term_core.specs.Bags.{In};
 ghost use Rattle.term_core.specs.declared.term.Term.{Term as Terms};
-ghost use Rattle.sparql_tree.specs.Bgp.{parts};
+ghost use Rattle.term_core.specs.Data.{parts};
 ghost use Rattle.term_dict.specs.Built.{records_of, AreTexts, AreShort};
 ghost use Rattle.btree_build.specs.Lists.{list_bytes};
-ghost use Rattle.triple_table.specs.Table.{terms_in, ids_in};
-ghost use Rattle.triple_table.specs.Keys.{order_of, keys_by};
+ghost use Rattle.store_image.specs.Table.{terms_in, ids_in};
+ghost use Rattle.store_image.specs.Keys.{index_numbered, keys_by};
 ghost use Rattle.std.specs.List.Sorted.{IsStrictlySortedBy};
 ghost use Rattle.term_core.specs.Ids.{id_cmp};
 ghost use Rattle.store_image.specs.Holds.{Holds};
@@ -15,11 +16,13 @@ ghost use Rattle.store_image.specs.Header.{header_bytes};
 ghost use Rattle.store_image.specs.Image.{padded, place_bytes, header_of, areas, IsImage};
 
 use crate::header::{Header, list_blocks, place_blocks};
+use crate::orders::keys_by;
+use crate::table::Table;
+use crate::table_id::data_id;
 use btree_build::push_entries;
 use std::alloc::Global;
 use term_core::{IdTriple, Memory, Term, Triple};
 use term_dict::{extent_of, push_places, push_records};
-use triple_table::{Table, data_id, keys_by};
 
 /// Appends zeros up to the end of a block.
 #[tactic(auto, unfolding(crate::specs::Image::padded))]
@@ -87,7 +90,7 @@ fn push_order_blocks(
     order: u8,
 ) -> Result<(), Memory>
     requires { length out.old.items % 4096 ≡ 0 }
-    ensures put { OnOk result (out.new.items ≡ out.old.items ++ padded (list_bytes (keys_by (order_of order) triples.now))) }
+    ensures put { OnOk result (out.new.items ≡ out.old.items ++ padded (list_bytes (keys_by (index_numbered order) triples.now))) }
     ensures whole { OnOk result (length out.new.items % 4096 ≡ 0) }
 {
     let keys = keys_by(alloc, triples, order)?;
@@ -134,13 +137,16 @@ fn written(alloc: Global, table: &Table, header: &Header) -> Result<Vec<u8>, Mem
 
 /// The bytes of the store file of a document's triples, in blocks of 4,096. They are a set (RDF 1.1
 /// Concepts, section 3): neither their order counts nor how often one stands. `have_short_terms`
-/// tells whether `short` holds. Want of memory is the one error.
+/// tells whether `short` holds, and what `nt_text::read_document` answers meets each clause. Want of
+/// memory is the one error.
 ///
 /// Terms are compared once, to put them in order, and the three lists are sorted as numbers. Room
 /// for the whole file is taken at once, when what numbered the terms is let go, and each part is
 /// written to it once.
 pub fn image(alloc: Global, triples: &[Triple]) -> Result<Vec<u8>, Memory>
     requires few { length triples.now ≤ 4194303 }
+    requires allowed { All IsAllowed triples.now }
+    requires spelled { All AreSpelled triples.now }
     requires short { (t : Terms) → In (flat_map parts triples.now) t → size_of t ≤ 262144 }
     ensures image { IfOk result (λ image. IsImage triples.now image.items) }
     ensures holds { IfOk result (λ image. Holds triples.now image.items) }

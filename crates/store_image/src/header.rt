@@ -2,7 +2,7 @@
 ghost use Rattle.std.specs.Prelude.{◌≡◌, ◌↔◌, ◌+◌, ◌≤◌, ◌++◌, IsTrue, MatchOption, OnOk, codes, take, drop};
 ghost use Rattle.std.specs.Int.{w32, to_be_bytes};
 ghost use Rattle.store_image.specs.declared.header.Header.{Header};
-ghost use Rattle.store_image.specs.Header.{place_blocks, list_blocks, fixed_blocks, dict_of, tree_of, number_at, IsHeader, IsWithin, header_bytes};
+ghost use Rattle.store_image.specs.Header.{place_blocks, list_blocks, fixed_blocks, dict_of, tree_of, header_number, IsHeader, AreWithinFile, header_bytes};
 
 use btree_scan::Tree;
 use term_core::Memory;
@@ -41,10 +41,10 @@ pub(crate) fn list_blocks(triples: u32) -> u32
 }
 
 /// The number of four bytes at a place, the highest first.
-#[tactic(auto, unfolding(crate::specs::Header::number_at))]
+#[tactic(auto, unfolding(crate::specs::Header::header_number))]
 fn number_at(block: &[u8; 4096], place: usize) -> u32
     requires { place + 4 ≤ 4096 }
-    ensures { result ≡ number_at place block.now }
+    ensures { result ≡ header_number place block.now }
 {
     let mut bytes = [0; 4];
     bytes.copy_from_slice(&block[place..place + 4]);
@@ -122,7 +122,7 @@ impl Header {
     /// Whether the numbers are within their limits, and a file of `count` blocks has room for all
     /// areas.
     fn is_within(&self, count: u32) -> bool
-        ensures { IsTrue result ↔ IsWithin self.now count }
+        ensures { IsTrue result ↔ AreWithinFile self.now count }
     {
         if self.blocks != count || self.triples > 4194303 {
             return false;

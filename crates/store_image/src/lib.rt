@@ -1,14 +1,20 @@
-//! The bytes of a store file: a header, the dictionary of the data's terms, and their triples in three orders.
+//! The bytes of a store file: a header, the dictionary of the data's terms, and their triples in three orders. The data in
+//! memory, of which it is made: the terms in order, and the triples by the ranks of their terms.
 #![tactic(auto)]
 
 mod building;
 mod header;
 mod law;
 mod limits;
-#[cfg(test)]
-mod tests;
+mod orders;
+mod slot;
+mod table;
+mod table_id;
 
 pub use building::image;
 pub use header::Header;
-pub use law::{equal_sets_give_equal_images, headers_are_alone};
+pub use law::{equal_sets_give_equal_images, headers_are_alone, written_lists_are_read};
 pub use limits::have_short_terms;
+pub use orders::{key_in, keys_by};
+pub use table::Table;
+pub use table_id::data_id;

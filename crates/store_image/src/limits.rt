@@ -3,7 +3,7 @@ ghost use Rattle.std.specs.Prelude.{◌≤◌, ◌↔◌, IsTrue, flat_map};
 ghost use Rattle.term_core.specs.Order.{size_of};
 ghost use Rattle.term_core.specs.Bags.{In};
 ghost use Rattle.term_core.specs.declared.term.Term.{Term as Terms};
-ghost use Rattle.sparql_tree.specs.Bgp.{parts};
+ghost use Rattle.term_core.specs.Data.{parts};
 
 use term_core::{Triple, size};
 

@@ -6,14 +6,14 @@ use Rattle.sage_outside.specs.declared.fault.StoreFault.{StoreFault}
 use Rattle.term_core.specs.declared.term.Term.{Term}
 use Rattle.term_core.specs.Order.{term_cmp}
 use Rattle.term_core.specs.OrderLaws.{same_terms}
-use Rattle.term_dict.specs.declared.area.Area.{Area}
+use Rattle.sage_outside.specs.declared.area.Area.{Area}
 use Rattle.term_dict.specs.declared.dict.Dict.{Dict}
-use Rattle.term_dict.specs.Areas.{area_bytes, part_of, block_of}
+use Rattle.sage_outside.specs.Areas.{area_bytes, part_of, block_of}
 use Rattle.term_dict.specs.Fronts.{IsDecided}
 use Rattle.term_dict.specs.Layout.{record_area, or_block, record_in, raw_record_in}
 use Rattle.term_dict.specs.Ranks.{Compares}
 use Rattle.term_dict.specs.Records.{term_in, raw_in}
-use Rattle.term_dict.proofs.Parts.{joined}
+use Rattle.sage_outside.proofs.Parts.{joined}
 use Rattle.term_dict.proofs.Raw.{or_raw, raw_of}
 
 -- a front and what is behind it

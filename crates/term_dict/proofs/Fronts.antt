@@ -8,7 +8,7 @@ use Rattle.std.specs.Cmp.Lexicographic.{slice_cmp}
 use Rattle.term_core.specs.declared.term.Term.{Term}
 use Rattle.term_core.specs.declared.term.Term.TheVariants.{Iri, Blank, Literal}
 use Rattle.term_core.specs.Order.{rank_of, text_of, datatype_of, lang_of, bytes_cmp}
-use Rattle.term_dict.specs.Records.{◌>>=◌, number_at, cut_at, raw_literal_at, raw_in}
+use Rattle.term_dict.specs.Records.{◌>>=◌, number_front, cut_at, raw_literal_at, raw_in}
 use Rattle.term_dict.specs.Fronts.{lexical_at, front_at, IsDecided}
 
 by_first : (o p q order : Ordering) → (p ≡ order → q ≡ order) → ordering_then o p ≡ order → ordering_then o q ≡ order
@@ -31,8 +31,8 @@ bind_is None f y e = cc
 bind_is (Some x) f y e = (x, refl, e)
 
 -- what is read of a front is read with more behind it
-number_more : (xs rest : List ℕ) (x : ℕ × List ℕ) → number_at xs ≡ Some x → number_at (xs ++ rest) ≡ Some (x.0, x.1 ++ rest)
-unfolding number_at
+number_more : (xs rest : List ℕ) (x : ℕ × List ℕ) → number_front xs ≡ Some x → number_front (xs ++ rest) ≡ Some (x.0, x.1 ++ rest)
+unfolding number_front
 number_more [] rest x e = cc
 number_more (a ∷ []) rest x e = cc
 number_more (a ∷ b ∷ []) rest x e = cc
@@ -62,8 +62,8 @@ lexical_more : (bytes rest lexical : List ℕ) → lexical_at bytes ≡ Some lex
     → (datatype : List ℕ) × (lang : List ℕ) × (raw_literal_at (bytes ++ rest) ≡ Some (Literal (lexical ++ rest) datatype lang))
 unfolding lexical_at raw_literal_at
 lexical_more bytes rest lexical e =
-    let n = bind_is (number_at bytes) _ lexical e in
-    let m = bind_is (number_at n.0.1) _ lexical n.2 in
+    let n = bind_is (number_front bytes) _ lexical e in
+    let m = bind_is (number_front n.0.1) _ lexical n.2 in
     let front = bind_is (cut_at n.0.0 m.0.1) _ lexical m.2 in
     let middle = bind_is (cut_at m.0.0 front.0.1) _ lexical front.2 in (
       front.0.0,

@@ -11,8 +11,8 @@ use Rattle.term_core.specs.declared.term.Term.{Term}
 use Rattle.term_core.specs.Order.{term_cmp}
 use Rattle.term_core.specs.OrderLaws.{terms_total}
 use Rattle.term_dict.specs.declared.dict.Dict.{Dict}
-use Rattle.term_dict.specs.Layout.{term_at, raw_at}
-use Rattle.term_dict.specs.Ranks.{Holds, Compares}
+use Rattle.term_dict.specs.Layout.{stored_term, raw_at}
+use Rattle.term_dict.specs.Ranks.{HoldsTerms, Compares}
 use Rattle.term_dict.proofs.Held.{held}
 use Rattle.term_dict.proofs.Raw.{raw_of_term}
 use Rattle.term_dict.proofs.Ranks.{rises, greater, turned, ties, by_place, same_at, contains_get}
@@ -49,14 +49,6 @@ nowhere ts t low high between le has =
     let tie = ties t in
     by_side at.0 low (λ lt. let e = between.below at.0 t at.1 lt in cc) (λ ge. let e = between.above at.0 t at.1 (omega arith) in cc)
 
--- what is left after one more step
-pub halved : (a b s n : ℕ) → 2 * a ≤ b → b * 2 ^ s ≤ n → a * 2 ^ (s + 1) ≤ n
-halved a b s n h i =
-    let e : 2 ^ (s + 1) ≡ 2 ^ s * 2 ^ 1 = pow-add 2 s 1 in
-    let f : a * (2 ^ s * 2 ^ 1) ≡ (2 * a) * 2 ^ s = grind arith in
-    let k : (2 * a) * 2 ^ s ≤ b * 2 ^ s = mul-le-mul_right (2 ^ s) h in
-    rw e (rw f (omega arith))
-
 pub ended : (a s n : ℕ) → s ≡ 32 → a * 2 ^ s ≤ n → n < 2 ^ 32 → a ≡ 0
 ended a s n e h i = let j = rw e at h in omega arith
 
@@ -91,37 +83,37 @@ cost_within before now s m r h le = let k : s * r ≤ m * r = mul-le-mul_right r
 
 -- what was compared are the texts of the record
 pub compared_here : (d : Dict) (image : List ℕ) (k : ℕ) (t : Term) (r : Result Ordering StoreFault) (order : Ordering) → r ≡ Ok order
-    → Compares t r (raw_at d k image) (term_at d k image) → (u : Term) × (raw_at d k image ≡ Ok u) × (term_cmp u t ≡ order)
+    → Compares t r (raw_at d k image) (stored_term d k image) → (u : Term) × (raw_at d k image ≡ Ok u) × (term_cmp u t ≡ order)
 compared_here d image k t r order is reads =
-    let P : Result Ordering StoreFault → Type 0 = λ s. Compares t s (raw_at d k image) (term_at d k image) in
+    let P : Result Ordering StoreFault → Type 0 = λ s. Compares t s (raw_at d k image) (stored_term d k image) in
     let told = subst P is reads in told.0
 
 same_ok : (a b : Term) (r : Result Term ℕ) → r ≡ Ok a → r ≡ Ok b → a ≡ b
 same_ok a b r e f = cc
 
 -- they are those of the term of that place
-pub compared_held : (d : Dict) (ts : List Term) (image : List ℕ) (k : ℕ) (t u : Term) (order : Ordering) → Holds d ts image → k < d.terms
+pub compared_held : (d : Dict) (ts : List Term) (image : List ℕ) (k : ℕ) (t u : Term) (order : Ordering) → HoldsTerms d ts image → k < d.terms
     → raw_at d k image ≡ Ok u → term_cmp u t ≡ order → slice_get ts k ≡ Some u
 compared_held d ts image k t u order holds lt raw is =
     let at = held d ts image k holds lt in
     at.1 ∙ ap Some (same_ok at.0 u (raw_at d k image) (raw_of_term d k image at.0 at.2) raw)
 
 pub tie_at : (d : Dict) (image : List ℕ) (k : ℕ) (t : Term) (r : Result Ordering StoreFault) (order : Ordering) → r ≡ Ok order → order ≡ Equal
-    → Compares t r (raw_at d k image) (term_at d k image) → term_at d k image ≡ Ok t
+    → Compares t r (raw_at d k image) (stored_term d k image) → stored_term d k image ≡ Ok t
 tie_at d image k t r order is tie reads =
-    let P : Result Ordering StoreFault → Type 0 = λ s. Compares t s (raw_at d k image) (term_at d k image) in
+    let P : Result Ordering StoreFault → Type 0 = λ s. Compares t s (raw_at d k image) (stored_term d k image) in
     let told = subst P is reads in told.1 tie
 
 pub damaged_at : (d : Dict) (image : List ℕ) (k : ℕ) (t : Term) (r : Result Ordering StoreFault) (fault : StoreFault) (block : ℕ) → r ≡ Err fault → fault ≡ faults.Damaged block
-    → Compares t r (raw_at d k image) (term_at d k image) → term_at d k image ≡ Err block
+    → Compares t r (raw_at d k image) (stored_term d k image) → stored_term d k image ≡ Err block
 damaged_at d image k t r fault block is damaged reads =
-    let P : Result Ordering StoreFault → Type 0 = λ s. Compares t s (raw_at d k image) (term_at d k image) in subst P (is ∙ ap Err damaged) reads
+    let P : Result Ordering StoreFault → Type 0 = λ s. Compares t s (raw_at d k image) (stored_term d k image) in subst P (is ∙ ap Err damaged) reads
 
 other_ok : (a : Term) (b : ℕ) (r : Result Term ℕ) → r ≡ Ok a → r ≡ Err b → ⊥
 other_ok a b r e f = cc
 
 -- nothing of what an image holds is damaged
-pub none_damaged : (d : Dict) (ts : List Term) (image : List ℕ) (k block : ℕ) → Holds d ts image → k < d.terms → term_at d k image ≡ Err block → ⊥
+pub none_damaged : (d : Dict) (ts : List Term) (image : List ℕ) (k block : ℕ) → HoldsTerms d ts image → k < d.terms → stored_term d k image ≡ Err block → ⊥
 none_damaged d ts image k block holds lt e = let at = held d ts image k holds lt in other_ok _ _ _ at.2 e
 
 -- a read that was one of the first steps is within the bound

@@ -5,8 +5,8 @@ use Rattle.sage_outside.specs.declared.fault.StoreFault.{StoreFault}
 use Rattle.sage_outside.specs.declared.fault.StoreFault.TheVariants as faults
 use Rattle.term_core.specs.declared.term.Term.{Term}
 use Rattle.term_dict.specs.declared.dict.Dict.{Dict}
-use Rattle.term_dict.specs.Layout.{Reads, term_at, span_at, span_length, longest_to, longest_in}
-use Rattle.term_dict.specs.Ranks.{Holds}
+use Rattle.term_dict.specs.Layout.{ReadsImage, stored_term, span_at, span_length, longest_to, longest_record}
+use Rattle.term_dict.specs.Ranks.{HoldsTerms}
 
 -- a place below a number is the last below it, or below that
 pub by_last : (C : Type 0) (k n : ℕ) → k < suc n → (k ≡ n → C) → (k < n → C) → C
@@ -23,8 +23,8 @@ longest_of_first d image (suc n) k lt =
     (λ lower. omega (arith, longest_of_first d image n k lower))
 
 -- no record is longer than the longest
-pub no_longer : (d : Dict) (image : List ℕ) (k : ℕ) → k < d.terms → span_length (span_at d k image) ≤ longest_in d image
-unfolding longest_in
+pub no_longer : (d : Dict) (image : List ℕ) (k : ℕ) → k < d.terms → span_length (span_at d k image) ≤ longest_record d image
+unfolding longest_record
 no_longer d image k lt = longest_of_first d image d.terms k lt
 
 pub get_within : (ts : List Term) (k : ℕ) → k < length ts → (u : Term) × (slice_get ts k ≡ Some u)
@@ -33,7 +33,7 @@ get_within (x ∷ ts) zero lt = (x, refl)
 get_within (x ∷ ts) (suc k) lt = get_within ts k (omega arith)
 
 -- record k is there, and reads as the term of place k
-pub held : (d : Dict) (ts : List Term) (image : List ℕ) (k : ℕ) → Holds d ts image → k < d.terms → (u : Term) × (slice_get ts k ≡ Some u) × (term_at d k image ≡ Ok u)
+pub held : (d : Dict) (ts : List Term) (image : List ℕ) (k : ℕ) → HoldsTerms d ts image → k < d.terms → (u : Term) × (slice_get ts k ≡ Some u) × (stored_term d k image ≡ Ok u)
 held d ts image k holds lt =
     let got = get_within ts k (omega (arith, holds.terms)) in
     (got.0, got.1, holds.each k got.0 got.1)
@@ -44,19 +44,19 @@ same_ok a b r e f = cc
 other_ok : (a : Term) (b : ℕ) (r : Result Term ℕ) → r ≡ Ok a → r ≡ Err b → ⊥
 other_ok a b r e f = cc
 
-module _ (d : Dict) (ts : List Term) (image : List ℕ) (k : ℕ) (holds : Holds d ts image) (lt : k < d.terms) where
+module _ (d : Dict) (ts : List Term) (image : List ℕ) (k : ℕ) (holds : HoldsTerms d ts image) (lt : k < d.terms) where
   -- what is read is the term of place k
-  pub held_term : (r : Result Term StoreFault) → Reads {X = Term} {Y = Term} (λ t. t) r (term_at d k image) → IfOk r (λ t. slice_get ts k ≡ Some t)
+  pub held_term : (r : Result Term StoreFault) → ReadsImage {X = Term} {Y = Term} (λ t. t) r (stored_term d k image) → IfOk r (λ t. slice_get ts k ≡ Some t)
   held_term (Ok t) reads = let at = held d ts image k holds lt in at.1 ∙ ap Some (same_ok _ _ _ at.2 reads)
   held_term (Err fault) reads = tt
 
   -- nothing of it is damaged
-  pub none_damaged : (r : Result Term StoreFault) (block : ℕ) → r ≡ Err (faults.Damaged block) → Reads {X = Term} {Y = Term} (λ t. t) r (term_at d k image) → ⊥
+  pub none_damaged : (r : Result Term StoreFault) (block : ℕ) → r ≡ Err (faults.Damaged block) → ReadsImage {X = Term} {Y = Term} (λ t. t) r (stored_term d k image) → ⊥
   none_damaged r block e reads =
       let at = held d ts image k holds lt in
-      let P : Result Term StoreFault → Type 0 = λ s. Reads {X = Term} {Y = Term} (λ t. t) s (term_at d k image) in
+      let P : Result Term StoreFault → Type 0 = λ s. ReadsImage {X = Term} {Y = Term} (λ t. t) s (stored_term d k image) in
       other_ok _ _ _ at.2 (subst P e reads)
 
 -- what was answered is what was read
-pub reads_ok : (r : Result Term StoreFault) (t : Term) (read : Result Term ℕ) → r ≡ Ok t → Reads {X = Term} {Y = Term} (λ u. u) r read → read ≡ Ok t
-reads_ok r t read e reads = let P : Result Term StoreFault → Type 0 = λ s. Reads {X = Term} {Y = Term} (λ u. u) s read in subst P e reads
+pub reads_ok : (r : Result Term StoreFault) (t : Term) (read : Result Term ℕ) → r ≡ Ok t → ReadsImage {X = Term} {Y = Term} (λ u. u) r read → read ≡ Ok t
+reads_ok r t read e reads = let P : Result Term StoreFault → Type 0 = λ s. ReadsImage {X = Term} {Y = Term} (λ u. u) s read in subst P e reads

@@ -6,15 +6,15 @@ use Rattle.std.proofs.lemmas.Bool.Decides.{nat_tests}
 use Rattle.std.specs.Int.{w64, to_be_bytes, from_be_bytes}
 use Rattle.std.proofs.lemmas.Nat.{from_be_bytes-to_be_bytes_8}
 use Rattle.std.proofs.lemmas.List.{take_at, drop_at, drop-drop}
-use Rattle.term_dict.specs.Areas.{part_of, area_bytes, block_of}
-use Rattle.term_dict.proofs.Parts.{front_behind}
+use Rattle.sage_outside.specs.Areas.{part_of, area_bytes, block_of}
+use Rattle.sage_outside.proofs.Parts.{front_behind}
 use Rattle.term_core.specs.declared.term.Term.{Term}
 use Rattle.term_core.specs.declared.term.Term.TheVariants.{Iri, Blank, Literal}
 use Rattle.term_dict.specs.declared.dict.Dict.{Dict}
 use Rattle.term_dict.specs.Records.{record_of, term_in}
 use Rattle.term_dict.specs.Built.{records_of, places_from, longest_of, IsLaidOut}
-use Rattle.term_dict.specs.Layout.{place_area, record_area, limit_of, term_at, place_at, span_of, span_at, span_length, longest_to, longest_in, record_in, or_block}
-use Rattle.term_dict.specs.Ranks.{Holds}
+use Rattle.term_dict.specs.Layout.{place_area, record_area, limit_of, stored_term, record_place, span_of, span_at, span_length, longest_to, longest_record, record_in, or_block}
+use Rattle.term_dict.specs.Ranks.{HoldsTerms}
 use Rattle.term_dict.proofs.Held.{get_within}
 use Rattle.term_dict.proofs.Ranks.{inside}
 use Rattle.term_dict.proofs.Reading.{term_back}
@@ -95,8 +95,8 @@ take_all [] = refl
 take_all (t ∷ ts) = ap (λ us. t ∷ us) (take_all ts)
 
 module _ (d : Dict) (ts : List Term) (image : List ℕ) (laid : IsLaidOut d ts image) where
-  place_is : (k : ℕ) → k ≤ length ts → place_at d k image ≡ length (records_of (take k ts))
-  unfolding place_at
+  place_is : (k : ℕ) → k ≤ length ts → record_place d k image ≡ length (records_of (take k ts))
+  unfolding record_place
   place_is k le =
       let n = length (records_of (take k ts)) in
       let all = area_bytes (place_area d) image in
@@ -116,12 +116,12 @@ module _ (d : Dict) (ts : List Term) (image : List ℕ) (laid : IsLaidOut d ts i
   span_is k t at =
       let from = length (records_of (take k ts)) in
       let end = from + length (record_of t) in
-      let first : place_at d k image ≡ from = place_is k (omega (arith, inside ts k t at)) in
-      let second : place_at d (k + 1) image ≡ end = ap (λ j. place_at d j image) (omega arith) ∙ place_is (suc k) (omega (arith, inside ts k t at)) ∙ next ts k t at in
-      ap (λ a. span_of d k a (place_at d (k + 1) image)) first ∙ ap (span_of d k from) second
+      let first : record_place d k image ≡ from = place_is k (omega (arith, inside ts k t at)) in
+      let second : record_place d (k + 1) image ≡ end = ap (λ j. record_place d j image) (omega arith) ∙ place_is (suc k) (omega (arith, inside ts k t at)) ∙ next ts k t at in
+      ap (λ a. span_of d k a (record_place d (k + 1) image)) first ∙ ap (span_of d k from) second
       ∙ span_ok d k from end (λ e. ap (λ j. length (records_of (take j ts))) e) (omega (arith, some_bytes t)) (omega (arith, laid.bytes, next ts k t at, within ts (suc k)))
 
-  each_is : (k : ℕ) (t : Term) → slice_get ts k ≡ Some t → term_at d k image ≡ Ok t
+  each_is : (k : ℕ) (t : Term) → slice_get ts k ≡ Some t → stored_term d k image ≡ Ok t
   each_is k t at =
       let from = length (records_of (take k ts)) in
       let end = from + length (record_of t) in
@@ -129,7 +129,7 @@ module _ (d : Dict) (ts : List Term) (image : List ℕ) (laid : IsLaidOut d ts i
       let bytes : part_of (record_area d) from (end - from) image ≡ record_of t = ap (λ n. part_of (record_area d) from n image) long ∙ record_is k t at in
       ap (λ s. record_in d s image) (span_is k t at) ∙ ap (λ b. or_block (block_of (record_area d) from) (term_in b)) bytes ∙ ap (or_block (block_of (record_area d) from)) (term_back t (laid.each k t at))
 
-  pub laid_out_holds : Holds d ts image
+  pub laid_out_holds : HoldsTerms d ts image
   laid_out_holds = record { sorted = laid.sorted; terms = laid.terms; each = each_is }
 
   longest_up_to : (k : ℕ) → k ≤ length ts → longest_to d k image ≡ longest_of (take k ts)
@@ -139,6 +139,6 @@ module _ (d : Dict) (ts : List Term) (image : List ℕ) (laid : IsLaidOut d ts i
       let n : span_length (span_at d k image) ≡ length (record_of got.0) = ap span_length (span_is k got.0 got.1) ∙ omega arith in
       omega (arith, n, longest_up_to k (omega arith), longest_next ts k got.0 got.1)
 
-  pub longest_is : longest_in d image ≡ longest_of ts
-  unfolding longest_in
+  pub longest_is : longest_record d image ≡ longest_of ts
+  unfolding longest_record
   longest_is = ap (λ k. longest_to d k image) laid.terms ∙ longest_up_to (length ts) (omega arith) ∙ ap longest_of (take_all ts)

@@ -1,8 +1,5 @@
 pub mod Texts
-pub mod Parts
-pub mod Touched
 pub mod Places
-pub mod Answered
 pub mod Held
 pub mod Raw
 pub mod Reading

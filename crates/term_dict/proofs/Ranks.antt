@@ -9,7 +9,7 @@ use Rattle.std.proofs.lemmas.List.Sums.{sum_by-cons}
 use Rattle.term_core.specs.declared.term.Term.{Term}
 use Rattle.term_core.specs.Order.{term_cmp}
 use Rattle.term_core.specs.OrderLaws.{terms_total}
-use Rattle.term_dict.specs.Ranks.{rank}
+use Rattle.term_dict.specs.Ranks.{rank_among}
 
 all_get : (P : Term → Type 0) (ts : List Term) (k : ℕ) (u : Term) → AllByRecursion P ts → slice_get ts k ≡ Some u → P u
 all_get P [] k u all at = cc
@@ -77,7 +77,7 @@ inside (x ∷ ts) zero t at = omega arith
 inside (x ∷ ts) (suc k) t at = omega (arith, inside ts k t at)
 
 -- a term's place is its rank
-pub place_is_rank : (ts : List Term) (t : Term) (k : ℕ) → IsStrictlySortedBy term_cmp ts → slice_get ts k ≡ Some t → k ≡ rank ts t
+pub place_is_rank : (ts : List Term) (t : Term) (k : ℕ) → IsStrictlySortedBy term_cmp ts → slice_get ts k ≡ Some t → k ≡ rank_among ts t
 place_is_rank ts t k sorted at =
     counted (λ u. is_lt (term_cmp u t)) ts k (omega (arith, inside ts k t at))
     (λ j u at_j lt. ap is_lt (rises ts j k u t sorted at_j at lt))
@@ -91,7 +91,7 @@ contains_get ts t (k, within, is) = (k, slice_get-get_or ts k t within ∙ ap So
 pub contains_at : (ts : List Term) (t : Term) (k : ℕ) → slice_get ts k ≡ Some t → Contains ts t
 contains_at ts t k at = (k, inside ts k t at, get_or_from_slice_get ts k t t at)
 
-pub rank_is_place : (ts : List Term) (t : Term) (k : ℕ) → IsStrictlySortedBy term_cmp ts → Contains ts t → k ≡ rank ts t → slice_get ts k ≡ Some t
+pub rank_is_place : (ts : List Term) (t : Term) (k : ℕ) → IsStrictlySortedBy term_cmp ts → Contains ts t → k ≡ rank_among ts t → slice_get ts k ≡ Some t
 rank_is_place ts t k sorted has e =
     let at = contains_get ts t has in
     ap (slice_get ts) (e ∙ sym (place_is_rank ts t at.0 sorted at.1)) ∙ at.1

@@ -5,9 +5,9 @@ use Rattle.std.specs.Str.{is_utf8}
 use Rattle.term_core.specs.declared.term.Term.{Term}
 use Rattle.term_core.specs.declared.term.Term.TheVariants.{Iri, Blank}
 use Rattle.term_dict.specs.declared.dict.Dict.{Dict}
-use Rattle.term_dict.specs.Areas.{part_of}
-use Rattle.term_dict.specs.Layout.{record_area, span_at, or_block, record_in, raw_record_in, term_at, raw_at}
-use Rattle.term_dict.specs.Records.{◌>>=◌, text_at, number_at, cut_at, literal_at, raw_literal_at, term_in, raw_in}
+use Rattle.sage_outside.specs.Areas.{part_of}
+use Rattle.term_dict.specs.Layout.{record_area, span_at, or_block, record_in, raw_record_in, stored_term, raw_at}
+use Rattle.term_dict.specs.Records.{◌>>=◌, text_in, number_front, cut_at, literal_in, raw_literal_at, term_in, raw_in}
 
 -- where a step gives something, what goes on from it does
 bind_more : {A : Type 0} (o : Option A) (f g : A → Option Term) (u : Term) → ((x : A) → f x ≡ Some u → g x ≡ Some u) → (o >>= f) ≡ Some u → (o >>= g) ≡ Some u
@@ -19,18 +19,18 @@ tested true xs f u e = e
 tested false xs f u e = cc
 
 -- a text that is there is the bytes
-bind_text : (xs : List ℕ) (f : List ℕ → Option Term) (u : Term) → (text_at xs >>= f) ≡ Some u → f xs ≡ Some u
-unfolding text_at
+bind_text : (xs : List ℕ) (f : List ℕ → Option Term) (u : Term) → (text_in xs >>= f) ≡ Some u → f xs ≡ Some u
+unfolding text_in
 bind_text xs f u e = tested (is_utf8 xs) xs f u e
 
-raw_literal : (bytes : List ℕ) (u : Term) → literal_at bytes ≡ Some u → raw_literal_at bytes ≡ Some u
-unfolding literal_at raw_literal_at
+raw_literal : (bytes : List ℕ) (u : Term) → literal_in bytes ≡ Some u → raw_literal_at bytes ≡ Some u
+unfolding literal_in raw_literal_at
 raw_literal bytes u e =
-    bind_more (number_at bytes) _ _ u (λ n. bind_more (number_at n.1) _ _ u (λ m. bind_more (cut_at n.0 m.1) _ _ u (λ front h.
+    bind_more (number_front bytes) _ _ u (λ n. bind_more (number_front n.1) _ _ u (λ m. bind_more (cut_at n.0 m.1) _ _ u (λ front h.
     bind_more (cut_at m.0 front.1) _ _ u (λ middle i. bind_text middle.1 _ u (bind_text middle.0 _ u i)) (bind_text front.0 _ u h)))) e
 
 raw_kind : (a b c : Bool) (rest : List ℕ) (u : Term)
-    → (if a then (text_at rest >>= λ label. Some (Blank label)) else if b then (text_at rest >>= λ iri. Some (Iri iri)) else if c then literal_at rest else None) ≡ Some u
+    → (if a then (text_in rest >>= λ label. Some (Blank label)) else if b then (text_in rest >>= λ iri. Some (Iri iri)) else if c then literal_in rest else None) ≡ Some u
     → (if a then Some (Blank rest) else if b then Some (Iri rest) else if c then raw_literal_at rest else None) ≡ Some u
 raw_kind true b c rest u e = bind_text rest (λ label. Some (Blank label)) u e
 raw_kind false true c rest u e = bind_text rest (λ iri. Some (Iri iri)) u e
@@ -50,5 +50,5 @@ in_record d (Ok span) image u e = or_raw _ _ _ u (raw_of (part_of (record_area d
 in_record d (Err block) image u e = cc
 
 -- a record that is read as a term spells its texts
-pub raw_of_term : (d : Dict) (k : ℕ) (image : List ℕ) (u : Term) → term_at d k image ≡ Ok u → raw_at d k image ≡ Ok u
+pub raw_of_term : (d : Dict) (k : ℕ) (image : List ℕ) (u : Term) → stored_term d k image ≡ Ok u → raw_at d k image ≡ Ok u
 raw_of_term d k image u e = in_record d (span_at d k image) image u e

@@ -6,12 +6,12 @@ use Rattle.std.proofs.lemmas.Nat.{from_be_bytes-to_be_bytes_4}
 use Rattle.std.proofs.lemmas.List.{take_at, drop_at}
 use Rattle.term_core.specs.declared.term.Term.{Term}
 use Rattle.term_core.specs.declared.term.Term.TheVariants.{Iri, Blank, Literal}
-use Rattle.term_dict.specs.Records.{record_of, number_at, cut_at, literal_at, term_in}
+use Rattle.term_dict.specs.Records.{record_of, number_front, cut_at, literal_in, term_in}
 use Rattle.term_dict.specs.Built.{IsText}
 use Rattle.term_dict.proofs.Texts.{text_utf8}
 
-number_back : (n : ℕ) (rest : List ℕ) → n < 2 ^ 32 → number_at (to_be_bytes w32 n ++ rest) ≡ Some (n, rest)
-unfolding number_at
+number_back : (n : ℕ) (rest : List ℕ) → n < 2 ^ 32 → number_front (to_be_bytes w32 n ++ rest) ≡ Some (n, rest)
+unfolding number_front
 number_back n rest h = ap (λ m. Some (m, rest)) (from_be_bytes-to_be_bytes_4 n h)
 
 not_below : (a b : ℕ) → nat_lt (a + b) a ≡ false
@@ -24,8 +24,8 @@ cut_back xs ys =
     rw (e, take_at xs ys (length xs) refl, drop_at xs ys (length xs) refl) refl
 
 literal_back : (lexical datatype lang : List ℕ) → IsText (Literal lexical datatype lang)
-    → literal_at (to_be_bytes w32 (length datatype) ++ (to_be_bytes w32 (length lang) ++ (datatype ++ (lang ++ lexical)))) ≡ Some (Literal lexical datatype lang)
-unfolding literal_at
+    → literal_in (to_be_bytes w32 (length datatype) ++ (to_be_bytes w32 (length lang) ++ (datatype ++ (lang ++ lexical)))) ≡ Some (Literal lexical datatype lang)
+unfolding literal_in
 literal_back lexical datatype lang is =
     rw (
       number_back (length datatype) (to_be_bytes w32 (length lang) ++ (datatype ++ (lang ++ lexical))) is.datatype_short,

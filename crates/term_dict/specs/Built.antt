@@ -5,7 +5,7 @@ use Rattle.std.specs.List.Sorted.{IsStrictlySortedBy}
 use Rattle.term_core.specs.declared.term.Term.{Term}
 use Rattle.term_core.specs.Order.{term_cmp, text_of, datatype_of, lang_of, size_of}
 use Rattle.term_dict.specs.declared.dict.Dict.{Dict}
-use Rattle.term_dict.specs.Areas.{area_bytes}
+use Rattle.sage_outside.specs.Areas.{area_bytes}
 use Rattle.term_dict.specs.Layout.{place_area, record_area}
 use Rattle.term_dict.specs.Records.{record_of}
 

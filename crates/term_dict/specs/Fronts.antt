@@ -4,13 +4,13 @@ use Rattle.std.specs.declared.cmp.Ordering.{Ordering}
 use Rattle.std.specs.declared.cmp.Ordering.TheVariants.{Equal}
 use Rattle.term_core.specs.declared.term.Term.{Term}
 use Rattle.term_core.specs.Order.{term_cmp}
-use Rattle.term_dict.specs.Records.{◌>>=◌, number_at, cut_at, raw_in}
+use Rattle.term_dict.specs.Records.{◌>>=◌, number_front, cut_at, raw_in}
 
 -- the beginning of a literal's lexical form, where its lengths, datatype and language tag are there
 unfoldable pub lexical_at : List ℕ → Option (List ℕ)
 lexical_at bytes = do
-  n ← number_at bytes
-  m ← number_at n.1
+  n ← number_front bytes
+  m ← number_front n.1
   front ← cut_at n.0 m.1
   middle ← cut_at m.0 front.1
   Some middle.1

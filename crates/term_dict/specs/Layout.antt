@@ -4,9 +4,9 @@ use Rattle.std.specs.Int.{w64, from_be_bytes}
 use Rattle.sage_outside.specs.declared.fault.StoreFault.{StoreFault}
 use Rattle.sage_outside.specs.declared.fault.StoreFault.TheVariants as faults
 use Rattle.term_core.specs.declared.term.Term.{Term}
-use Rattle.term_dict.specs.declared.area.Area.{Area}
+use Rattle.sage_outside.specs.declared.area.Area.{Area}
 use Rattle.term_dict.specs.declared.dict.Dict.{Dict}
-use Rattle.term_dict.specs.Areas.{part_of, block_of}
+use Rattle.sage_outside.specs.Areas.{part_of, block_of}
 use Rattle.term_dict.specs.Records.{term_in, raw_in}
 
 -- the area of the numbers that tell where records begin
@@ -18,8 +18,8 @@ abbrev pub record_area : Dict → Area
 record_area d = record { first = d.records; payload = d.payload }
 
 -- number k: where record k begins, of eight bytes, the highest first
-unfoldable pub place_at : Dict → ℕ → List ℕ → ℕ
-place_at d k image = from_be_bytes w64 (part_of (place_area d) (8 * k) 8 image)
+unfoldable pub record_place : Dict → ℕ → List ℕ → ℕ
+record_place d k image = from_be_bytes w64 (part_of (place_area d) (8 * k) 8 image)
 
 -- number 0 is 0, and each other is within the records' area
 abbrev pub limit_of : Dict → ℕ → ℕ
@@ -36,7 +36,7 @@ span_of d k from end =
 
 -- the same of the numbers of an image
 abbrev pub span_at : Dict → ℕ → List ℕ → Result (ℕ × ℕ) ℕ
-span_at d k image = span_of d k (place_at d k image) (place_at d (k + 1) image)
+span_at d k image = span_of d k (record_place d k image) (record_place d (k + 1) image)
 
 -- a term, or the block to blame where there is none
 abbrev pub or_block : ℕ → Option Term → Result Term ℕ
@@ -50,8 +50,8 @@ record_in d (Ok span) image =
 record_in d (Err block) image = Err block
 
 -- the term of record k, or the block in which its broken number or record begins
-abbrev pub term_at : Dict → ℕ → List ℕ → Result Term ℕ
-term_at d k image = record_in d (span_at d k image) image
+abbrev pub stored_term : Dict → ℕ → List ℕ → Result Term ℕ
+stored_term d k image = record_in d (span_at d k image) image
 
 -- the texts of record k, whether they are UTF-8 or not, or the block in which its broken number or record begins
 abbrev pub raw_record_in : Dict → Result (ℕ × ℕ) ℕ → List ℕ → Result Term ℕ
@@ -63,11 +63,11 @@ abbrev pub raw_at : Dict → ℕ → List ℕ → Result Term ℕ
 raw_at d k image = raw_record_in d (span_at d k image) image
 
 -- a call gives what reading the image gives, `Damaged` with the block to blame; other refusals say nothing of it
-abbrev pub Reads : {X Y : Type 0} → (X → Y) → Result X StoreFault → Result Y ℕ → Type 0
-Reads view (Ok x) read = read ≡ Ok (view x)
-Reads view (Err (faults.Damaged block)) read = read ≡ Err block
-Reads view (Err faults.Blocks) read = Unit {0}
-Reads view (Err faults.Memory) read = Unit {0}
+abbrev pub ReadsImage : {X Y : Type 0} → (X → Y) → Result X StoreFault → Result Y ℕ → Type 0
+ReadsImage view (Ok x) read = read ≡ Ok (view x)
+ReadsImage view (Err (faults.Damaged block)) read = read ≡ Err block
+ReadsImage view (Err faults.Blocks) read = Unit {0}
+ReadsImage view (Err faults.Memory) read = Unit {0}
 
 -- the bytes between two numbers that are well formed
 abbrev pub span_length : Result (ℕ × ℕ) ℕ → ℕ
@@ -80,17 +80,17 @@ longest_to d zero image = 0
 longest_to d (suc k) image = max (longest_to d k image) (span_length (span_at d k image))
 
 -- the bytes of the longest record of an image, whatever its records spell
-unfoldable pub longest_in : Dict → List ℕ → ℕ
-longest_in d image = longest_to d d.terms image
+unfoldable pub longest_record : Dict → List ℕ → ℕ
+longest_record d image = longest_to d d.terms image
 
 -- both areas are within so many blocks, and the payload is whole or leaves 16 bytes for a tag
-pub record Lies (d : Dict) (count : ℕ) : Type 0 where
+pub record DictLies (d : Dict) (count : ℕ) : Type 0 where
   pub payload : (d.payload ≡ 4096) ⊎ (d.payload ≡ 4080)
   pub places : d.places * d.payload + 8 * (d.terms + 1) ≤ count * d.payload
   pub records : d.records * d.payload + d.bytes ≤ count * d.payload
 
 -- the same, where a number of 32 bits counts the blocks
-pub record Stands (d : Dict) (count : ℕ) : Type 0 where
+pub record DictStands (d : Dict) (count : ℕ) : Type 0 where
   pub counted : count < 2 ^ 32
   pub payload : (d.payload ≡ 4096) ⊎ (d.payload ≡ 4080)
   pub places : d.places * d.payload + 8 * (d.terms + 1) ≤ count * d.payload

@@ -1,4 +1,3 @@
-pub mod Areas
 pub mod Records
 pub mod Layout
 pub mod Ranks

@@ -9,22 +9,22 @@ use Rattle.sage_outside.specs.declared.fault.StoreFault.TheVariants as faults
 use Rattle.term_core.specs.declared.term.Term.{Term}
 use Rattle.term_core.specs.Order.{term_cmp}
 use Rattle.term_dict.specs.declared.dict.Dict.{Dict}
-use Rattle.term_dict.specs.Layout.{term_at, raw_at}
+use Rattle.term_dict.specs.Layout.{stored_term, raw_at}
 
 -- the number of terms below a term
-abbrev pub rank : List Term → Term → ℕ
-rank ts t = count_by (λ u. is_lt (term_cmp u t)) ts
+abbrev pub rank_among : List Term → Term → ℕ
+rank_among ts t = count_by (λ u. is_lt (term_cmp u t)) ts
 
 -- the term has that rank and is there, or it is not there
 abbrev pub IsRank : List Term → Term → Option ℕ → Type 0
 IsRank ts t None = Contains ts t → ⊥
-IsRank ts t (Some k) = (slice_get ts k ≡ Some t) × (k ≡ rank ts t)
+IsRank ts t (Some k) = (slice_get ts k ≡ Some t) × (k ≡ rank_among ts t)
 
 -- the image has these terms in their order: record k is the term of rank k, and there are no more
-pub record Holds (d : Dict) (ts : List Term) (image : List ℕ) : Type 0 where
+pub record HoldsTerms (d : Dict) (ts : List Term) (image : List ℕ) : Type 0 where
   pub sorted : IsStrictlySortedBy term_cmp ts
   pub terms : d.terms ≡ length ts
-  pub each : (k : ℕ) (t : Term) → slice_get ts k ≡ Some t → term_at d k image ≡ Ok t
+  pub each : (k : ℕ) (t : Term) → slice_get ts k ≡ Some t → stored_term d k image ≡ Ok t
 
 -- a place in the image where the term would stand: the record before it is less, and the record there is greater
 pub record IsGap (d : Dict) (t : Term) (image : List ℕ) : Type 0 where

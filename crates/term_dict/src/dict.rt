@@ -4,14 +4,13 @@ ghost use Rattle.std.specs.declared.cmp.Ordering.{Ordering};
 ghost use Rattle.sage_outside.specs.Causes.{Rose};
 ghost use Rattle.sage_outside.specs.Blocks.{HasRead, Tells};
 ghost use Rattle.term_core.specs.declared.term.Term.{Term};
-ghost use Rattle.term_dict.specs.Areas.{part_of, block_of, touched};
-ghost use Rattle.term_dict.specs.Layout.{place_area, record_area, place_at, span_of, span_at, span_length, term_at, or_block, longest_in, Lies, Stands, Reads};
-ghost use Rattle.term_dict.specs.Ranks.{Holds};
+ghost use Rattle.sage_outside.specs.Areas.{part_of, block_of, touched};
+ghost use Rattle.term_dict.specs.Layout.{place_area, record_area, record_place, span_of, span_at, span_length, stored_term, or_block, longest_record, DictLies, DictStands, ReadsImage};
+ghost use Rattle.term_dict.specs.Ranks.{HoldsTerms};
 ghost use Rattle.term_dict.specs.Records.{term_in};
 
-use crate::area::{Area, block_of, read_area};
 use crate::record::{RecordFault, term_of};
-use sage_outside::{Blocks, Failed, StoreFault};
+use sage_outside::{Area, Blocks, Failed, StoreFault, block_of, read_area};
 use std::alloc::Global;
 use term_core::Term;
 
@@ -33,7 +32,7 @@ pub struct Dict {
 impl Dict {
     /// Whether the payload is 4096 or 4080 and both areas are within so many blocks.
     pub fn lies(&self, count: u32) -> bool
-        ensures { IsTrue result ↔ Lies self.now count }
+        ensures { IsTrue result ↔ DictLies self.now count }
     {
         if self.payload != 4096 && self.payload != 4080 {
             return false;
@@ -65,12 +64,12 @@ impl Dict {
 
     /// Numbers `k` and `k + 1`, as they stand in the blocks.
     fn place_pair<B: Blocks>(&self, blocks: &mut B, k: u32) -> Result<(u64, u64), Failed>
-        requires stands { Stands self.now (B.device blocks.old).count }
+        requires stands { DictStands self.now (B.device blocks.old).count }
         requires within { k < self.now.terms }
         ensures read { HasRead (B.device blocks.old) (B.device blocks.new) 2 }
         ensures failed { OnErr result (Rose (B.device blocks.old).faults (B.device blocks.new).faults) }
         ensures found { (image : List ℕ) → Tells (B.device blocks.old).image image
-            → IfOk result (λ x. (x.0 ≡ place_at self.now k image) × (x.1 ≡ place_at self.now (k + 1) image)) }
+            → IfOk result (λ x. (x.0 ≡ record_place self.now k image) × (x.1 ≡ record_place self.now (k + 1) image)) }
     {
         let mut bytes = [0; 16];
         let mut from = [0; 8];
@@ -97,7 +96,7 @@ impl Dict {
     fn risen(&self, k: u32, from: u64, end: u64) -> Result<(u64, u64), StoreFault>
         requires some { 0 < self.now.payload }
         requires fits { block_of (place_area self.now) (8 * (k + 1)) ≤ u32.MAX }
-        ensures span { Reads (λ x. (x.0, x.1)) result (span_of self.now k from end) }
+        ensures span { ReadsImage (λ x. (x.0, x.1)) result (span_of self.now k from end) }
         ensures rises { IfOk result (λ x. (x.0 ≤ x.1) × (x.1 ≤ self.now.bytes)) }
         ensures own { result ≡ Err StoreFault.Blocks → ⊥ }
     {
@@ -116,13 +115,13 @@ impl Dict {
 
     /// Where record `k` begins and ends.
     pub(crate) fn span<B: Blocks>(&self, blocks: &mut B, k: u32) -> Result<(u64, u64), StoreFault>
-        requires stands { Stands self.now (B.device blocks.old).count }
+        requires stands { DictStands self.now (B.device blocks.old).count }
         requires within { k < self.now.terms }
         ensures read { HasRead (B.device blocks.old) (B.device blocks.new) 2 }
         ensures failed { result ≡ Err StoreFault.Blocks
             → Rose (B.device blocks.old).faults (B.device blocks.new).faults }
         ensures found { (image : List ℕ) → Tells (B.device blocks.old).image image
-            → Reads (λ x. (x.0, x.1)) result (span_at self.now k image) }
+            → ReadsImage (λ x. (x.0, x.1)) result (span_at self.now k image) }
         ensures rises { IfOk result (λ x. (x.0 ≤ x.1) × (x.1 ≤ self.now.bytes)) }
     {
         let (from, end) = self.place_pair(blocks, k)?;
@@ -137,7 +136,7 @@ impl Dict {
         from: u64,
         count: u64,
     ) -> Result<Vec<u8>, StoreFault>
-        requires stands { Stands self.now (B.device blocks.old).count }
+        requires stands { DictStands self.now (B.device blocks.old).count }
         requires within { from + count ≤ self.now.bytes }
         ensures read { HasRead (B.device blocks.old) (B.device blocks.new) (touched self.now.payload from count) }
         ensures failed { result ≡ Err StoreFault.Blocks
@@ -163,7 +162,7 @@ impl Dict {
     pub(crate) fn decoded(&self, alloc: Global, bytes: &[u8], from: u64) -> Result<Term, StoreFault>
         requires some { 0 < self.now.payload }
         requires fits { block_of (record_area self.now) from ≤ u32.MAX }
-        ensures read { Reads (λ t. t) result (or_block (block_of (record_area self.now) from) (term_in bytes.now)) }
+        ensures read { ReadsImage (λ t. t) result (or_block (block_of (record_area self.now) from) (term_in bytes.now)) }
         ensures own { result ≡ Err StoreFault.Blocks → ⊥ }
     {
         match term_of(alloc, bytes) {
@@ -182,7 +181,7 @@ impl Dict {
         blocks: &mut B,
         k: u32,
     ) -> Result<Term, StoreFault>
-        requires stands { Stands self.now (B.device blocks.old).count }
+        requires stands { DictStands self.now (B.device blocks.old).count }
         requires within { k < self.now.terms }
         ensures read { HasRead (B.device blocks.old) (B.device blocks.new) (4 + self.now.bytes / 4080) }
         ensures few_reads { (image : List ℕ) → Tells (B.device blocks.old).image image
@@ -190,7 +189,7 @@ impl Dict {
         ensures failed { result ≡ Err StoreFault.Blocks
             → Rose (B.device blocks.old).faults (B.device blocks.new).faults }
         ensures found { (image : List ℕ) → Tells (B.device blocks.old).image image
-            → Reads (λ t. t) result (term_at self.now k image) }
+            → ReadsImage (λ t. t) result (stored_term self.now k image) }
     {
         let (from, end) = self.span(blocks, k)?;
         let bytes = self.record(alloc, blocks, from, end - from)?;
@@ -208,19 +207,19 @@ impl Dict {
         blocks: &mut B,
         id: u32,
     ) -> Result<Term, StoreFault>
-        requires lies { Lies self.now (B.device blocks.old).count }
+        requires lies { DictLies self.now (B.device blocks.old).count }
         requires within { id < self.now.terms }
         ensures read { HasRead (B.device blocks.old) (B.device blocks.new) (4 + self.now.bytes / 4080) }
         ensures few_reads { (image : List ℕ) → Tells (B.device blocks.old).image image
-            → (B.device blocks.new).reads ≤ (B.device blocks.old).reads + (4 + longest_in self.now image / 4080) }
+            → (B.device blocks.new).reads ≤ (B.device blocks.old).reads + (4 + longest_record self.now image / 4080) }
         ensures failed { result ≡ Err StoreFault.Blocks
             → Rose (B.device blocks.old).faults (B.device blocks.new).faults }
         ensures found { (image : List ℕ) → Tells (B.device blocks.old).image image
-            → Reads (λ t. t) result (term_at self.now id image) }
+            → ReadsImage (λ t. t) result (stored_term self.now id image) }
         ensures held { (ts : List Term) (image : List ℕ) → Tells (B.device blocks.old).image image
-            → Holds self.now ts image → IfOk result (λ t. slice_get ts id ≡ Some t) }
+            → HoldsTerms self.now ts image → IfOk result (λ t. slice_get ts id ≡ Some t) }
         ensures whole { (ts : List Term) (image : List ℕ) (block : ℕ) → Tells (B.device blocks.old).image image
-            → Holds self.now ts image → result ≡ Err (StoreFault.Damaged block) → ⊥ }
+            → HoldsTerms self.now ts image → result ≡ Err (StoreFault.Damaged block) → ⊥ }
     {
         self.term_of_record(alloc, blocks, id)
     }

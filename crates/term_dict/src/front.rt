@@ -1,7 +1,7 @@
 // How the front of a record stands to a term, where it decides.
 ghost use Rattle.std.specs.Prelude.{◌≡◌, ℕ, List, IfSome, take, length};
 ghost use Rattle.term_core.specs.Order.{rank_of, text_of};
-ghost use Rattle.term_dict.specs.Records.{Gives};
+ghost use Rattle.term_dict.specs.Records.{Decodes};
 ghost use Rattle.term_dict.specs.Fronts.{lexical_at, front_at, IsDecided};
 
 use crate::record::{RecordFault, cut, number_of};
@@ -11,7 +11,7 @@ use term_core::Term;
 /// The beginning of a literal's lexical form, where its two lengths and its other texts are there.
 #[tactic(auto, unfolding(crate::specs::Fronts::lexical_at))]
 fn lexical_of(bytes: &[u8]) -> Result<&[u8], RecordFault>
-    ensures { Gives (λ x. x.now) result (lexical_at bytes.now) }
+    ensures { Decodes (λ x. x.now) result (lexical_at bytes.now) }
 {
     let (datatype_length, rest) = number_of(bytes)?;
     let (lang_length, rest) = number_of(rest)?;
@@ -22,7 +22,7 @@ fn lexical_of(bytes: &[u8]) -> Result<&[u8], RecordFault>
 
 /// The kind of a record, and the beginning of its text.
 fn beginning_of(front: &[u8]) -> Result<(u8, &[u8]), RecordFault>
-    ensures { Gives (λ x. (x.0, x.1.now)) result (front_at front.now) }
+    ensures { Decodes (λ x. (x.0, x.1.now)) result (front_at front.now) }
 {
     match front {
         [] => Err(RecordFault::Form),

@@ -1,7 +1,6 @@
 //! A dictionary of terms over blocks: each term by its rank in the order, and the rank of a term.
 #![tactic(auto)]
 
-mod area;
 mod dict;
 mod dict_image;
 mod front;
@@ -9,8 +8,6 @@ mod law;
 mod order;
 mod record;
 mod search;
-#[cfg(test)]
-mod tests;
 
 pub use dict::Dict;
 pub use dict_image::{

@@ -2,8 +2,8 @@
 ghost use Rattle.std.specs.Prelude.{◌≡◌, ◌<◌, ◌≤◌, ◌+◌, ◌-◌, ◌/◌, ℕ, List, Ok, IfOk, length};
 ghost use Rattle.sage_outside.specs.Causes.{Rose};
 ghost use Rattle.sage_outside.specs.Blocks.{HasRead, Tells};
-ghost use Rattle.term_dict.specs.Areas.{part_of, touched, block_of};
-ghost use Rattle.term_dict.specs.Layout.{record_area, or_block, record_in, raw_record_in, term_at, raw_at, span_at, span_length, Stands};
+ghost use Rattle.sage_outside.specs.Areas.{part_of, touched, block_of};
+ghost use Rattle.term_dict.specs.Layout.{record_area, or_block, record_in, raw_record_in, stored_term, raw_at, span_at, span_length, DictStands};
 ghost use Rattle.term_dict.specs.Ranks.{Compares};
 ghost use Rattle.term_dict.specs.Records.{term_in, raw_in};
 
@@ -24,7 +24,7 @@ impl Dict {
         from: u64,
         count: u64,
     ) -> Result<Vec<u8>, StoreFault>
-        requires stands { Stands self.now (B.device blocks.old).count }
+        requires stands { DictStands self.now (B.device blocks.old).count }
         requires front { length front.items ≤ count }
         requires within { from + count ≤ self.now.bytes }
         ensures read { HasRead (B.device blocks.old) (B.device blocks.new)
@@ -76,7 +76,7 @@ impl Dict {
         count: u64,
         t: &Term,
     ) -> Result<Ordering, StoreFault>
-        requires stands { Stands self.now (B.device blocks.old).count }
+        requires stands { DictStands self.now (B.device blocks.old).count }
         requires front { length front.items < count }
         requires within { from + count ≤ self.now.bytes }
         ensures read { HasRead (B.device blocks.old) (B.device blocks.new)
@@ -107,7 +107,7 @@ impl Dict {
         end: u64,
         t: &Term,
     ) -> Result<Ordering, StoreFault>
-        requires stands { Stands self.now (B.device blocks.old).count }
+        requires stands { DictStands self.now (B.device blocks.old).count }
         requires rises { from ≤ end }
         requires within { end ≤ self.now.bytes }
         ensures read { HasRead (B.device blocks.old) (B.device blocks.new) (2 + (end - from) / 4080) }
@@ -135,7 +135,7 @@ impl Dict {
         k: u32,
         t: &Term,
     ) -> Result<Ordering, StoreFault>
-        requires stands { Stands self.now (B.device blocks.old).count }
+        requires stands { DictStands self.now (B.device blocks.old).count }
         requires within { k < self.now.terms }
         ensures read { HasRead (B.device blocks.old) (B.device blocks.new) (4 + self.now.bytes / 4080) }
         ensures few_reads { (image : List ℕ) → Tells (B.device blocks.old).image image
@@ -143,7 +143,7 @@ impl Dict {
         ensures failed { result ≡ Err StoreFault.Blocks
             → Rose (B.device blocks.old).faults (B.device blocks.new).faults }
         ensures found { (image : List ℕ) → Tells (B.device blocks.old).image image
-            → Compares t.now result (raw_at self.now k image) (term_at self.now k image) }
+            → Compares t.now result (raw_at self.now k image) (stored_term self.now k image) }
     {
         let (from, end) = self.span(blocks, k)?;
         self.order_in_span(alloc, blocks, from, end, t)

@@ -1,6 +1,6 @@
 // A record's bytes as a term.
 ghost use Rattle.std.specs.Prelude.{◌≡◌, ℕ, List};
-ghost use Rattle.term_dict.specs.Records.{Gives, text_at, number_at, cut_at, literal_at, term_in};
+ghost use Rattle.term_dict.specs.Records.{Decodes, text_in, number_front, cut_at, literal_in, term_in};
 
 use std::alloc::Global;
 use term_core::{Term, Text, TextFault};
@@ -16,7 +16,7 @@ pub enum RecordFault {
 
 #[tactic(auto, using(crate::proofs::Texts::text_utf8, crate::proofs::Texts::text_other))]
 fn text_of(alloc: Global, bytes: &[u8]) -> Result<Text, RecordFault>
-    ensures { Gives (λ t. t) result (text_at bytes.now) }
+    ensures { Decodes (λ t. t) result (text_in bytes.now) }
 {
     match Text::from_bytes(alloc, bytes) {
         Ok(text) => Ok(text),
@@ -26,9 +26,9 @@ fn text_of(alloc: Global, bytes: &[u8]) -> Result<Text, RecordFault>
 }
 
 /// A number of four bytes, and what is behind it.
-#[tactic(auto, unfolding(crate::specs::Records::number_at))]
+#[tactic(auto, unfolding(crate::specs::Records::number_front))]
 pub fn number_of(bytes: &[u8]) -> Result<(u32, &[u8]), RecordFault>
-    ensures { Gives (λ x. (x.0, x.1.now)) result (number_at bytes.now) }
+    ensures { Decodes (λ x. (x.0, x.1.now)) result (number_front bytes.now) }
 {
     match bytes {
         [a, b, c, d, rest @ ..] => Ok((u32::from_be_bytes([*a, *b, *c, *d]), rest)),
@@ -42,7 +42,7 @@ pub fn number_of(bytes: &[u8]) -> Result<(u32, &[u8]), RecordFault>
 /// So many bytes, and what is behind them.
 #[tactic(auto, unfolding(crate::specs::Records::cut_at))]
 pub fn cut(count: u32, bytes: &[u8]) -> Result<(&[u8], &[u8]), RecordFault>
-    ensures { Gives (λ x. (x.0.now, x.1.now)) result (cut_at count bytes.now) }
+    ensures { Decodes (λ x. (x.0.now, x.1.now)) result (cut_at count bytes.now) }
 {
     if bytes.len() < count as usize {
         Err(RecordFault::Form)
@@ -51,9 +51,9 @@ pub fn cut(count: u32, bytes: &[u8]) -> Result<(&[u8], &[u8]), RecordFault>
     }
 }
 
-#[tactic(auto, unfolding(crate::specs::Records::literal_at))]
+#[tactic(auto, unfolding(crate::specs::Records::literal_in))]
 fn literal_of(alloc: Global, bytes: &[u8]) -> Result<Term, RecordFault>
-    ensures { Gives (λ t. t) result (literal_at bytes.now) }
+    ensures { Decodes (λ t. t) result (literal_in bytes.now) }
 {
     let (datatype_length, rest) = number_of(bytes)?;
     let (lang_length, rest) = number_of(rest)?;
@@ -71,7 +71,7 @@ fn literal_of(alloc: Global, bytes: &[u8]) -> Result<Term, RecordFault>
 
 /// The term that a record spells.
 pub fn term_of(alloc: Global, bytes: &[u8]) -> Result<Term, RecordFault>
-    ensures { Gives (λ t. t) result (term_in bytes.now) }
+    ensures { Decodes (λ t. t) result (term_in bytes.now) }
 {
     match bytes {
         [] => Err(RecordFault::Form),

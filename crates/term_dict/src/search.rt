@@ -3,8 +3,8 @@ ghost use Rattle.std.specs.Prelude.{◌≡◌, ◌<◌, ◌≤◌, ◌+◌, ◌*
 ghost use Rattle.sage_outside.specs.Causes.{Rose};
 ghost use Rattle.sage_outside.specs.Blocks.{HasRead, Tells};
 ghost use Rattle.term_core.specs.declared.term.Term.{Term};
-ghost use Rattle.term_dict.specs.Layout.{term_at, longest_in, Lies, Stands};
-ghost use Rattle.term_dict.specs.Ranks.{Holds, IsRank, IsGap};
+ghost use Rattle.term_dict.specs.Layout.{stored_term, longest_record, DictLies, DictStands};
+ghost use Rattle.term_dict.specs.Ranks.{HoldsTerms, IsRank, IsGap};
 
 use crate::Dict;
 use sage_outside::{Blocks, StoreFault};
@@ -20,21 +20,21 @@ impl Dict {
         blocks: &mut B,
         t: &Term,
     ) -> Result<Option<u32>, StoreFault>
-        requires stands { Stands self.now (B.device blocks.old).count }
+        requires stands { DictStands self.now (B.device blocks.old).count }
         ensures read { HasRead (B.device blocks.old) (B.device blocks.new) (32 * (4 + self.now.bytes / 4080)) }
         ensures few_reads { (image : List ℕ) → Tells (B.device blocks.old).image image → self.now.terms ≤ 12582909
-            → (B.device blocks.new).reads ≤ (B.device blocks.old).reads + 25 * (4 + longest_in self.now image / 4080) }
+            → (B.device blocks.new).reads ≤ (B.device blocks.old).reads + 25 * (4 + longest_record self.now image / 4080) }
         ensures failed { result ≡ Err StoreFault.Blocks
             → Rose (B.device blocks.old).faults (B.device blocks.new).faults }
         ensures found { (ts : List Term) (image : List ℕ) → Tells (B.device blocks.old).image image
-            → Holds self.now ts image → IfOk result (IsRank ts t.now) }
+            → HoldsTerms self.now ts image → IfOk result (IsRank ts t.now) }
         ensures there { (image : List ℕ) (k : ℕ) → Tells (B.device blocks.old).image image
-            → result ≡ Ok (Some k) → (k < self.now.terms) × (term_at self.now k image ≡ Ok t.now) }
+            → result ≡ Ok (Some k) → (k < self.now.terms) × (stored_term self.now k image ≡ Ok t.now) }
         ensures absent { (image : List ℕ) → Tells (B.device blocks.old).image image
             → result ≡ Ok None → IsGap self.now t.now image }
         ensures damaged { (image : List ℕ) (block : ℕ) → Tells (B.device blocks.old).image image
             → result ≡ Err (StoreFault.Damaged block)
-            → (k : ℕ) × (k < self.now.terms) × (term_at self.now k image ≡ Err block) }
+            → (k : ℕ) × (k < self.now.terms) × (stored_term self.now k image ≡ Err block) }
     {
         let mut low = 0u32;
         let mut high = self.terms;
@@ -67,23 +67,23 @@ impl Dict {
         blocks: &mut B,
         t: &Term,
     ) -> Result<Option<u32>, StoreFault>
-        requires lies { Lies self.now (B.device blocks.old).count }
+        requires lies { DictLies self.now (B.device blocks.old).count }
         ensures read { HasRead (B.device blocks.old) (B.device blocks.new) (32 * (4 + self.now.bytes / 4080)) }
         ensures few_reads { (image : List ℕ) → Tells (B.device blocks.old).image image → self.now.terms ≤ 12582909
-            → (B.device blocks.new).reads ≤ (B.device blocks.old).reads + 25 * (4 + longest_in self.now image / 4080) }
+            → (B.device blocks.new).reads ≤ (B.device blocks.old).reads + 25 * (4 + longest_record self.now image / 4080) }
         ensures failed { result ≡ Err StoreFault.Blocks
             → Rose (B.device blocks.old).faults (B.device blocks.new).faults }
         ensures found { (ts : List Term) (image : List ℕ) → Tells (B.device blocks.old).image image
-            → Holds self.now ts image → IfOk result (IsRank ts t.now) }
+            → HoldsTerms self.now ts image → IfOk result (IsRank ts t.now) }
         ensures there { (image : List ℕ) (k : ℕ) → Tells (B.device blocks.old).image image
-            → result ≡ Ok (Some k) → (k < self.now.terms) × (term_at self.now k image ≡ Ok t.now) }
+            → result ≡ Ok (Some k) → (k < self.now.terms) × (stored_term self.now k image ≡ Ok t.now) }
         ensures absent { (image : List ℕ) → Tells (B.device blocks.old).image image
             → result ≡ Ok None → IsGap self.now t.now image }
         ensures damaged { (image : List ℕ) (block : ℕ) → Tells (B.device blocks.old).image image
             → result ≡ Err (StoreFault.Damaged block)
-            → (k : ℕ) × (k < self.now.terms) × (term_at self.now k image ≡ Err block) }
+            → (k : ℕ) × (k < self.now.terms) × (stored_term self.now k image ≡ Err block) }
         ensures whole { (ts : List Term) (image : List ℕ) (block : ℕ) → Tells (B.device blocks.old).image image
-            → Holds self.now ts image → result ≡ Err (StoreFault.Damaged block) → ⊥ }
+            → HoldsTerms self.now ts image → result ≡ Err (StoreFault.Damaged block) → ⊥ }
     {
         self.rank_of(alloc, blocks, t)
     }

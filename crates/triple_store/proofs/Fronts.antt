@@ -7,11 +7,12 @@ use Rattle.std.proofs.lemmas.Bool.Decides.{nat_tests}
 use Rattle.term_core.specs.declared.pattern.IdTriple.{IdTriple}
 use Rattle.term_core.specs.OrderLaws.{both_tie}
 use Rattle.btree_scan.specs.Cuts.{front_cmp, HasPrefix}
-use Rattle.triple_table.specs.Keys.{ids_of_key}
+use Rattle.store_image.specs.Keys.{ids_of_key}
 use Rattle.triple_store.specs.declared.asked.Wanted.{Wanted}
 use Rattle.triple_store.specs.declared.asked.Wanted.TheVariants.{Any, Only, Nothing}
 use Rattle.triple_store.specs.declared.asked.Asked.{Asked}
-use Rattle.triple_store.specs.Asked.{takes, index_for, front_of}
+use Rattle.triple_store.specs.Asked.{asks_for, index_for}
+use Rattle.triple_store.specs.WantedFronts.{front_of}
 
 tied : (x a : ℕ) → nat_cmp x a ≡ Equal → (a == x) ≡ true
 tied x a e = grind (arith, nat_tests)
@@ -50,7 +51,7 @@ with_true false = refl
 -- the same for a front of each length, whichever places it comes of
 module _ (key : IdTriple) where
   abbrev Asks : (s p o : Wanted) → Type 0
-  Asks s p o = let asked : Asked = record { s = s; p = p; o = o } in HasPrefix (front_of asked) key ↔ IsTrue (takes asked (ids_of_key (index_for asked) key))
+  Asks s p o = let asked : Asked = record { s = s; p = p; o = o } in HasPrefix (front_of asked) key ↔ IsTrue (asks_for asked (ids_of_key (index_for asked) key))
 
   asks : (s p o : Wanted) → (s ≡ Nothing → ⊥) → (p ≡ Nothing → ⊥) → (o ≡ Nothing → ⊥) → Asks s p o
   unfolding front_cmp
@@ -78,7 +79,7 @@ module _ (key : IdTriple) where
 
 -- keys have the front exactly where the ranks are those that are asked for
 pub front_asks : (asked : Asked) (key : IdTriple) → (asked.s ≡ Nothing → ⊥) → (asked.p ≡ Nothing → ⊥) → (asked.o ≡ Nothing → ⊥)
-    → HasPrefix (front_of asked) key ↔ IsTrue (takes asked (ids_of_key (index_for asked) key))
+    → HasPrefix (front_of asked) key ↔ IsTrue (asks_for asked (ids_of_key (index_for asked) key))
 front_asks asked key ls lp lo = asks key asked.s asked.p asked.o ls lp lo
 
 pub refuted : (b : Bool) (P : Type 0) → (b ≡ true → P) × (P → b ≡ true) → b ≡ false → P → ⊥

@@ -17,38 +17,38 @@ use Rattle.term_core.specs.Bags.{In}
 use Rattle.term_core.proofs.Bags.{from_In-map}
 use Rattle.term_core.specs.Ids.{id_cmp}
 use Rattle.term_core.proofs.IdOrder.{ids_total}
-use Rattle.plan_tree.specs.Index.{Index, by_subject, by_predicate, by_object}
-use Rattle.plan_tree.proofs.Orders.{from_In-in_order}
+use Rattle.term_core.specs.Index.{Index, by_subject, by_predicate, by_object}
+use Rattle.term_core.proofs.Orders.{from_In-in_order}
 use Rattle.term_dict.specs.declared.dict.Dict.{Dict}
 use Rattle.term_dict.specs.Layout as dict
 use Rattle.btree_scan.specs.declared.tree.Tree.{Tree}
-use Rattle.btree_scan.specs.Entries.{Lies, Lists, entry_at}
-use Rattle.triple_table.specs.Table.{IsBelow, AreBelow}
-use Rattle.triple_table.specs.Keys.{order_of, key_of, ids_of_key, keys_by}
-use Rattle.triple_table.proofs.Keys.{undone, redone}
-use Rattle.triple_table.proofs.TableLists.{In-get_or}
+use Rattle.btree_scan.specs.Entries.{ListLies, Lists, stored_entry}
+use Rattle.store_image.specs.Table.{IsBelow, AreBelow}
+use Rattle.store_image.specs.Keys.{index_numbered, key_in, ids_of_key, keys_by}
+use Rattle.store_image.proofs.Keys.{undone, redone}
+use Rattle.store_image.proofs.TableLists.{In-get_or}
 use Rattle.store_image.specs.declared.header.Header.{Header}
 use Rattle.store_image.specs.Header.{IsHeader, dict_of, tree_of}
 use Rattle.store_image.specs.Holds.{Shows, Holds}
-use Rattle.triple_store.specs.Stores.{View, IsOpened, IsKept, IsShown, IsBroken, IsStoreOf}
-use Rattle.triple_store.specs.Entries.{ReadsEntry, named_key, triple_at}
+use Rattle.triple_store.specs.Stores.{View, IsOpened, IsKept, IsShown, IsDamaged, IsStoreOf}
+use Rattle.triple_store.specs.Entries.{ReadsEntry, named_key, stored_triple}
 
 not_le : (a b : ℕ) → b < a → nat_le a b ≡ false
 not_le a b lt = grind (arith, nat_tests)
 
 -- each list is within the blocks
-pub list_lies : (h : Header) (count order : ℕ) → IsOpened h count → order ≤ 2 → Lies (tree_of h order) count
-list_lies h count zero opened le = record { payload = inl refl; few = opened.few; within = omega (arith, opened.room, opened.counted) }
-list_lies h count (suc zero) opened le = record { payload = inl refl; few = opened.few; within = omega (arith, opened.room, opened.counted) }
-list_lies h count (suc (suc zero)) opened le = record { payload = inl refl; few = opened.few; within = omega (arith, opened.room, opened.counted) }
+pub list_lies : (h : Header) (count order : ℕ) → IsOpened h count → order ≤ 2 → ListLies (tree_of h order) count
+list_lies h count zero opened le = record { payload = inl refl; few = opened.within.few; within = omega (arith, opened.within.room, opened.within.counted) }
+list_lies h count (suc zero) opened le = record { payload = inl refl; few = opened.within.few; within = omega (arith, opened.within.room, opened.within.counted) }
+list_lies h count (suc (suc zero)) opened le = record { payload = inl refl; few = opened.within.few; within = omega (arith, opened.within.room, opened.within.counted) }
 list_lies h count (suc (suc (suc n))) opened le = absurd (omega arith)
 
 -- the dictionary is within the blocks
-pub dict_lies : (h : Header) (count : ℕ) → IsOpened h count → dict.Lies (dict_of h) count
+pub dict_lies : (h : Header) (count : ℕ) → IsOpened h count → dict.DictLies (dict_of h) count
 dict_lies h count opened = record {
   payload = inl refl;
-  places = omega (arith, opened.room, opened.counted);
-  records = omega (arith, opened.room, opened.counted);
+  places = omega (arith, opened.within.room, opened.within.counted);
+  records = omega (arith, opened.within.room, opened.within.counted);
 }
 
 -- the blocks of a store as they are seen tell what they tell
@@ -57,13 +57,13 @@ told_here store seen terms ids shown e = subst (λ v. Tells v.device.image shown
 
 -- a list of a store that shows triples has their keys
 pub lists_here : (store seen : View) (terms : List Term) (ids : List IdTriple) (order : ℕ) (tree : Tree) (shown : IsShown store terms ids) → seen ≡ store → order ≤ 2
-    → tree ≡ tree_of seen.header order → Lists tree (keys_by (order_of order) ids) shown.image
+    → tree ≡ tree_of seen.header order → Lists tree (keys_by (index_numbered order) ids) shown.image
 lists_here store seen terms ids order tree shown e le is =
-    subst (λ t. Lists t (keys_by (order_of order) ids) shown.image) (ap (λ v. tree_of v.header order) (sym e) ∙ sym is) (shown.shows.lists order le)
+    subst (λ t. Lists t (keys_by (index_numbered order) ids) shown.image) (ap (λ v. tree_of v.header order) (sym e) ∙ sym is) (shown.shows.lists order le)
 
 -- the key of a triple whose ids are terms' is named
 key_named : (order terms : ℕ) (tree : Tree) (place : ℕ) (key : IdTriple) → key.s < terms → key.p < terms → key.o < terms
-    → named_key order terms tree place key ≡ Ok (ids_of_key (order_of order) key)
+    → named_key order terms tree place key ≡ Ok (ids_of_key (index_numbered order) key)
 unfolding named_key
 key_named order terms tree place key s p o = rw (not_le terms key.s s, not_le terms key.p p, not_le terms key.o o) refl
 
@@ -71,7 +71,7 @@ key_named order terms tree place key s p o = rw (not_le terms key.s s, not_le te
 key_below : (x : Index) (count : ℕ) (ids : List IdTriple) (key : IdTriple) → AreBelow count ids → In (keys_by x ids) key → IsBelow count (ids_of_key x key)
 unfolding keys_by
 key_below x count ids key below i =
-    let w = from_In-map (key_of x) ids key (from_In-in_order id_cmp ids_total (map (key_of x) ids) key i) in
+    let w = from_In-map (key_in x) ids key (from_In-in_order id_cmp ids_total (map (key_in x) ids) key i) in
     subst (IsBelow count) (sym (undone x w.0) ∙ ap (ids_of_key x) w.2) (below w.0 w.1)
 
 parts_below : (x : Index) (count : ℕ) (key : IdTriple) → IsBelow count (ids_of_key x key) → (key.s < count) × (key.p < count) × (key.o < count)
@@ -82,19 +82,19 @@ parts_below by_object count key b = (b.o, b.s, b.p)
 -- at a place of a store that shows triples, a triple is read that has the key of the place
 pub record IsRead (h : Header) (ids : List IdTriple) (order place : ℕ) (image : List ℕ) : Type 0 where
   pub triple : IdTriple
-  pub read : triple_at h order place image ≡ Ok triple
-  pub at : slice_get (keys_by (order_of order) ids) place ≡ Some (key_of (order_of order) triple)
+  pub read : stored_triple h order place image ≡ Ok triple
+  pub at : slice_get (keys_by (index_numbered order) ids) place ≡ Some (key_in (index_numbered order) triple)
 
 pub read_here : (h : Header) (terms : List Term) (ids : List IdTriple) (image : List ℕ) (order place : ℕ) → Shows h terms ids image → order ≤ 2 → place < h.triples
     → IsRead h ids order place image
 read_here h terms ids image order place shows le lt =
-    let x = order_of order in
+    let x = index_numbered order in
     let es = keys_by x ids in
     let lists = shows.lists order le in
     let within : place < length es = omega (arith, lists.entries) in
     let key = get_or es place record { s = 0; p = 0; o = 0 } in
     let at : slice_get es place ≡ Some key = slice_get-get_or es place _ within in
-    let is : entry_at (tree_of h order) place image ≡ key = lists.each place key at in
+    let is : stored_entry (tree_of h order) place image ≡ key = lists.each place key at in
     let below = parts_below x h.terms key (subst (λ n. IsBelow n (ids_of_key x key)) (sym shows.dictionary.terms) (key_below x (length terms) ids key shows.below (In-get_or es place _ within))) in
     record {
       triple = ids_of_key x key;
@@ -107,16 +107,16 @@ same_read read a b e f = cc
 
 -- a call that reads such a place gives its triple
 pub entry_found : (r : Result IdTriple ReadFault) (h : Header) (ids : List IdTriple) (order place : ℕ) (image : List ℕ) → IsRead h ids order place image
-    → ReadsEntry r (triple_at h order place image) → IfOk r (λ t. slice_get (keys_by (order_of order) ids) place ≡ Some (key_of (order_of order) t))
+    → ReadsEntry r (stored_triple h order place image) → IfOk r (λ t. slice_get (keys_by (index_numbered order) ids) place ≡ Some (key_in (index_numbered order) t))
 entry_found (Ok t) h ids order place image is reads =
-    is.at ∙ ap (λ u. Some (key_of (order_of order) u)) (same_read _ is.triple t is.read reads)
+    is.at ∙ ap (λ u. Some (key_in (index_numbered order) u)) (same_read _ is.triple t is.read reads)
 entry_found (Err fault) h ids order place image is reads = tt
 
 -- and no damage
 pub entry_whole : (r : Result IdTriple ReadFault) (h : Header) (ids : List IdTriple) (order place : ℕ) (image : List ℕ) (block : ℕ) → IsRead h ids order place image
-    → ReadsEntry r (triple_at h order place image) → r ≡ Err (faults.Damaged block) → ⊥
+    → ReadsEntry r (stored_triple h order place image) → r ≡ Err (faults.Damaged block) → ⊥
 entry_whole r h ids order place image block is reads e =
-    let f : triple_at h order place image ≡ Err block = subst (λ q. ReadsEntry q (triple_at h order place image)) e reads in
+    let f : stored_triple h order place image ≡ Err block = subst (λ q. ReadsEntry q (stored_triple h order place image)) e reads in
     let g = is.read in
     cc
 
@@ -144,15 +144,15 @@ shown_kept before now terms ids kept shown = record {
 
 -- the keys of an order are as many as the header tells, and in order
 pub key_count : (store now seen : View) (terms : List Term) (ids : List IdTriple) (order : ℕ) → IsShown store terms ids → order ≤ 2 → IsKept store now → seen ≡ now
-    → seen.header.triples ≡ length (keys_by (order_of order) ids)
+    → seen.header.triples ≡ length (keys_by (index_numbered order) ids)
 key_count store now seen terms ids order shown le kept e = ap (λ v. v.header.triples) e ∙ ap (λ h. h.triples) kept.header ∙ (shown.shows.lists order le).entries
 
-pub keys_rise : (store : View) (terms : List Term) (ids : List IdTriple) (order : ℕ) → IsShown store terms ids → order ≤ 2 → IsStrictlySortedBy id_cmp (keys_by (order_of order) ids)
+pub keys_rise : (store : View) (terms : List Term) (ids : List IdTriple) (order : ℕ) → IsShown store terms ids → order ≤ 2 → IsStrictlySortedBy id_cmp (keys_by (index_numbered order) ids)
 keys_rise store terms ids order shown le = (shown.shows.lists order le).sorted
 
 -- an entry that was read is the key of its place
 pub key_there : (r : Result IdTriple ReadFault) (tree : Tree) (es : List IdTriple) (place : ℕ) (image : List ℕ) → Lists tree es image → place < length es
-    → IfOk r (λ e. e ≡ entry_at tree place image) → IfOk r (λ key. slice_get es place ≡ Some key)
+    → IfOk r (λ e. e ≡ stored_entry tree place image) → IfOk r (λ key. slice_get es place ≡ Some key)
 key_there (Ok e) tree es place image lists lt is =
     let at : slice_get es place ≡ Some (get_or es place record { s = 0; p = 0; o = 0 }) = slice_get-get_or es place _ lt in
     at ∙ ap Some (sym (is ∙ lists.each place _ at))
@@ -178,8 +178,8 @@ kept_on a b c f g = record {
 pub told_kept : (before now : View) (image : List ℕ) → IsKept before now → Tells before.device.image image → Tells now.device.image image
 told_kept before now image kept told = record { told = kept.image ∙ told.told }
 
-pub broken_before : (before now : View) (image : List ℕ) (block : ℕ) → IsKept before now → IsBroken now.header image block → IsBroken before.header image block
-broken_before before now image block kept broken = subst (λ h. IsBroken h image block) kept.header broken
+pub broken_before : (before now : View) (image : List ℕ) (block : ℕ) → IsKept before now → IsDamaged now.header image block → IsDamaged before.header image block
+broken_before before now image block kept broken = subst (λ h. IsDamaged h image block) kept.header broken
 
 -- a block is at most one header
 same_header : (block : List ℕ) (m n : ℕ) (h k : Header) → IsHeader block m h → IsHeader block n k → h ≡ k

@@ -10,14 +10,14 @@ use Rattle.std.proofs.lemmas.Option.{slice_get_within, get_or_from_slice_get, sl
 use Rattle.term_core.specs.declared.pattern.IdTriple.{IdTriple}
 use Rattle.term_core.specs.Ids.{id_cmp}
 use Rattle.term_core.proofs.IdOrder.{ids_total}
-use Rattle.plan_tree.specs.Index.{Index, by_subject}
-use Rattle.plan_tree.proofs.Ranked.{In-slice_get, slice_get-In}
+use Rattle.term_core.specs.Index.{Index, by_subject}
+use Rattle.term_core.proofs.Ranked.{In-slice_get, slice_get-In}
 use Rattle.btree_scan.proofs.Keys.{counted}
-use Rattle.triple_table.specs.Table.{IsFound}
-use Rattle.triple_table.specs.Keys.{order_of, key_of, ids_of_key, keys_by}
-use Rattle.triple_table.proofs.Keys.{undone, redone, In-keys_by, from_In-keys_by}
-use Rattle.triple_table.proofs.TableFound.{missing, found, found-map}
-use Rattle.triple_table.proofs.TableLists.{In-from_Contains, Contains-from_In, rising_at, three}
+use Rattle.store_image.specs.Table.{IsFound}
+use Rattle.store_image.specs.Keys.{index_numbered, key_in, ids_of_key, keys_by}
+use Rattle.store_image.proofs.Keys.{undone, redone, In-keys_by, from_In-keys_by}
+use Rattle.store_image.proofs.TableFound.{missing, found, found-map}
+use Rattle.store_image.proofs.TableLists.{In-from_Contains, Contains-from_In, rising_at, three}
 use Rattle.triple_store.specs.declared.range.Range.{Range}
 use Rattle.triple_store.specs.Ranges.{triples_at}
 use Rattle.triple_store.specs.Stretches.{keys_at}
@@ -85,37 +85,37 @@ module _ (es : List IdTriple) (sorted : IsStrictlySortedBy id_cmp es) where
       outside (subst (λ p. m ≤ p) same w.from) (subst (λ p. p < m + n) same w.before))
 
 -- what was found by the keys of an order is found of their triples
-pub found_by_key : (x : Index) (keys : List IdTriple) (t : IdTriple) (place : Option ℕ) → IsFound keys (key_of x t) place → IsFound (map (ids_of_key x) keys) t place
-found_by_key x keys t place f = found-map (ids_of_key x) (key_of x) (redone x) (undone x) keys t place f
+pub found_by_key : (x : Index) (keys : List IdTriple) (t : IdTriple) (place : Option ℕ) → IsFound keys (key_in x t) place → IsFound (map (ids_of_key x) keys) t place
+found_by_key x keys t place f = found-map (ids_of_key x) (key_in x) (redone x) (undone x) keys t place f
 
 -- the triple of the key at a place
-pub triple_there : (x : Index) (keys : List IdTriple) (k : ℕ) (t : IdTriple) → slice_get keys k ≡ Some (key_of x t) → slice_get (map (ids_of_key x) keys) k ≡ Some t
+pub triple_there : (x : Index) (keys : List IdTriple) (k : ℕ) (t : IdTriple) → slice_get keys k ≡ Some (key_in x t) → slice_get (map (ids_of_key x) keys) k ≡ Some t
 triple_there x keys k t at = slice_get-map (ids_of_key x) keys k ∙ ap (option_map (ids_of_key x)) at ∙ ap Some (undone x t)
 
 -- a place in a list as a place in a range of it
-pub place_there : (r : Range) (ids : List IdTriple) (t : IdTriple) (place : ℕ) (result : Option ℕ) → IsStrictlySortedBy id_cmp (keys_by (order_of r.order) ids) → r.first ≤ r.end
-    → IsFound (keys_by (order_of r.order) ids) (key_of (order_of r.order) t) (Some place)
+pub place_there : (r : Range) (ids : List IdTriple) (t : IdTriple) (place : ℕ) (result : Option ℕ) → IsStrictlySortedBy id_cmp (keys_by (index_numbered r.order) ids) → r.first ≤ r.end
+    → IsFound (keys_by (index_numbered r.order) ids) (key_in (index_numbered r.order) t) (Some place)
     → ((k : ℕ) → result ≡ Some k → (r.first + k ≡ place) × (place < r.end)) → (result ≡ None → r.first ≤ place → place < r.end → ⊥)
     → IsFound (triples_at ids r) t result
 place_there r ids t place (Some k) sorted rises f at none =
-    let x = order_of r.order in
+    let x = index_numbered r.order in
     let here = at k refl in
-    found_by_key x (keys_at ids r) t (Some k) (found_within (keys_by x ids) sorted r.first (r.end - r.first) k place (key_of x t) f here.0 (omega (arith, here.1)))
+    found_by_key x (keys_at ids r) t (Some k) (found_within (keys_by x ids) sorted r.first (r.end - r.first) k place (key_in x t) f here.0 (omega (arith, here.1)))
 place_there r ids t place None sorted rises f at none =
-    let x = order_of r.order in
-    found_by_key x (keys_at ids r) t None (none_outside (keys_by x ids) sorted r.first (r.end - r.first) place (key_of x t) f (λ low high. none refl low (omega arith)))
+    let x = index_numbered r.order in
+    found_by_key x (keys_at ids r) t None (none_outside (keys_by x ids) sorted r.first (r.end - r.first) place (key_in x t) f (λ low high. none refl low (omega arith)))
 
-pub nowhere : (r : Range) (ids : List IdTriple) (t : IdTriple) → IsStrictlySortedBy id_cmp (keys_by (order_of r.order) ids) → IsFound (keys_by (order_of r.order) ids) (key_of (order_of r.order) t) None
+pub nowhere : (r : Range) (ids : List IdTriple) (t : IdTriple) → IsStrictlySortedBy id_cmp (keys_by (index_numbered r.order) ids) → IsFound (keys_by (index_numbered r.order) ids) (key_in (index_numbered r.order) t) None
     → IsFound (triples_at ids r) t None
 nowhere r ids t sorted f =
-    let x = order_of r.order in
-    found_by_key x (keys_at ids r) t None (none_within (keys_by x ids) sorted r.first (r.end - r.first) (key_of x t) f)
+    let x = index_numbered r.order in
+    found_by_key x (keys_at ids r) t None (none_within (keys_by x ids) sorted r.first (r.end - r.first) (key_in x t) f)
 
 -- the triple at a place of a range
 pub triple_at_place : (r : Range) (ids : List IdTriple) (t : IdTriple) (place : ℕ) → place < r.end - r.first
-    → slice_get (keys_by (order_of r.order) ids) (r.first + place) ≡ Some (key_of (order_of r.order) t) → slice_get (triples_at ids r) place ≡ Some t
+    → slice_get (keys_by (index_numbered r.order) ids) (r.first + place) ≡ Some (key_in (index_numbered r.order) t) → slice_get (triples_at ids r) place ≡ Some t
 triple_at_place r ids t place lt at =
-    triple_there (order_of r.order) (keys_at ids r) place t (get-stretch r.first (r.end - r.first) place (keys_by (order_of r.order) ids) lt ∙ at)
+    triple_there (index_numbered r.order) (keys_at ids r) place t (get-stretch r.first (r.end - r.first) place (keys_by (index_numbered r.order) ids) lt ∙ at)
 
 -- a triple is among the data where its key is in the list by subject
 pub had : (ids : List IdTriple) (t : IdTriple) (r : Option ℕ) → IsFound (keys_by by_subject ids) t r → (is_some r ≡ true) ↔ Contains ids t

@@ -6,9 +6,9 @@ use Rattle.std.specs.declared.cmp.Ordering.TheVariants.{Less}
 use Rattle.std.proofs.lemmas.List.{length-take, length-drop}
 use Rattle.std.proofs.lemmas.Option.{slice_get_within}
 use Rattle.term_core.specs.Bags.{In}
-use Rattle.plan_tree.proofs.Orders.{all_at, all_from}
-use Rattle.plan_tree.proofs.Ranked.{In-slice_get, slice_get-In}
-use Rattle.triple_table.proofs.TableLists.{In-take}
+use Rattle.term_core.proofs.Orders.{all_at, all_from}
+use Rattle.term_core.proofs.Ranked.{In-slice_get, slice_get-In}
+use Rattle.store_image.proofs.TableLists.{In-take}
 
 -- the members from a place on, so many of them
 abbrev pub stretch : {X : Type 0} → ℕ → ℕ → List X → List X

@@ -2,4 +2,5 @@ pub mod Stores
 pub mod Entries
 pub mod Ranges
 pub mod Asked
+pub mod WantedFronts
 pub mod Stretches

@@ -4,27 +4,27 @@ use Rattle.std.specs.FinMap as finmap
 use Rattle.term_core.specs.declared.term.Term.{Term}
 use Rattle.term_core.specs.declared.term.Triple.{Triple}
 use Rattle.term_core.specs.declared.pattern.IdTriple.{IdTriple}
-use Rattle.sparql_tree.specs.Bgp.{Pattern}
-use Rattle.plan_tree.specs.Index.{index_of}
-use Rattle.plan_tree.specs.Trace as plan
-use Rattle.triple_table.specs.Table.{decode, AreBelow}
-use Rattle.triple_table.specs.Keys.{order_of, ids_of_key, keys_by}
+use Rattle.term_core.specs.Patterns.{Pattern}
+use Rattle.term_core.specs.Index.{index_of}
+use Rattle.term_core.specs.Index as indexes
+use Rattle.store_image.specs.Table.{decode, AreBelow}
+use Rattle.store_image.specs.Keys.{index_numbered, ids_of_key, keys_by}
 use Rattle.triple_store.specs.declared.range.Range.{Range}
 use Rattle.triple_store.specs.Stores.{View}
 
 -- the places are of one of the three lists
-pub record IsWithin (store : View) (r : Range) : Type 0 where
+pub record IsInStore (store : View) (r : Range) : Type 0 where
   pub order : r.order ≤ 2
   pub rises : r.first ≤ r.end
   pub within : r.end ≤ store.header.triples
 
 -- the triples at the places of a range, in the order of its list
 abbrev pub triples_at : List IdTriple → Range → List IdTriple
-triples_at ids r = map (ids_of_key (order_of r.order)) (take (r.end - r.first) (drop r.first (keys_by (order_of r.order) ids)))
+triples_at ids r = map (ids_of_key (index_numbered r.order)) (take (r.end - r.first) (drop r.first (keys_by (index_numbered r.order) ids)))
 
 -- the triples of the data that agree with a pattern's terms, by ranks, in the order of the pattern's index, each once
 pub record IsRangeOf (L : List Triple) (terms : List Term) (ids : List IdTriple) (p : Pattern) (r : Range) : Type 0 where
-  pub index : order_of r.order ≡ index_of p finmap.empty
+  pub index : index_numbered r.order ≡ index_of p finmap.empty
   pub count : length (triples_at ids r) ≡ r.end - r.first
   pub below : AreBelow (length terms) (triples_at ids r)
-  pub triples : map (decode terms) (triples_at ids r) ≡ plan.range L p finmap.empty
+  pub triples : map (decode terms) (triples_at ids r) ≡ indexes.range L p finmap.empty

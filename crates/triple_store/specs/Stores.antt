@@ -1,15 +1,15 @@
 -- An opened store: the header that was read, and its blocks.
-use Rattle.std.specs.Prelude.{◌≡◌, ℕ, ◌*◌, ◌^◌, ◌<◌, ◌≤◌, List, length, Err}
+use Rattle.std.specs.Prelude.{◌≡◌, ℕ, ◌^◌, ◌<◌, ◌≤◌, List, length, Err}
 use Rattle.term_core.specs.declared.term.Term.{Term}
 use Rattle.term_core.specs.declared.term.Triple.{Triple}
 use Rattle.term_core.specs.declared.pattern.IdTriple.{IdTriple}
 use Rattle.sage_outside.specs.Blocks.{Device, Tells}
-use Rattle.plan_tree.specs.Spelling.{data_id}
+use Rattle.term_core.specs.Data.{data_id}
 use Rattle.term_dict.specs.Built.{longest_of}
-use Rattle.term_dict.specs.Layout.{term_at}
-use Rattle.triple_table.specs.Table.{IsTable}
+use Rattle.term_dict.specs.Layout.{stored_term}
+use Rattle.store_image.specs.Table.{IsTable}
 use Rattle.store_image.specs.declared.header.Header.{Header}
-use Rattle.store_image.specs.Header.{fixed_blocks, dict_of}
+use Rattle.store_image.specs.Header.{AreWithinFile, dict_of}
 use Rattle.store_image.specs.Holds.{Shows}
 
 -- what is seen of an opened store
@@ -17,14 +17,10 @@ pub record View : Type 0 where
   pub header : Header
   pub device : Device
 
--- the header's numbers are within their limits, and its areas within so many blocks
+-- the header's numbers are within their limits, and its areas within so many blocks, which a number of 32 bits counts
 pub record IsOpened (h : Header) (count : ℕ) : Type 0 where
-  pub counted : h.blocks ≡ count
   pub fits : count < 2 ^ 32
-  pub few : h.triples ≤ 4194303
-  pub named : h.terms ≤ 3 * h.triples
-  pub short : h.longest ≤ 262153
-  pub room : fixed_blocks h.terms h.triples ≤ h.blocks
+  pub within : AreWithinFile h count
 
 -- header, image and number of blocks are as they were, and no count fell
 pub record IsKept (before now : View) : Type 0 where
@@ -41,10 +37,10 @@ pub record IsShown (store : View) (terms : List Term) (ids : List IdTriple) : Ty
   pub shows : Shows store.header terms ids image
 
 -- a number or a record of the dictionary that begins in that block is not well formed
-pub record IsBroken (h : Header) (image : List ℕ) (block : ℕ) : Type 0 where
+pub record IsDamaged (h : Header) (image : List ℕ) (block : ℕ) : Type 0 where
   pub id : ℕ
   pub within : id < h.terms
-  pub read : term_at (dict_of h) id image ≡ Err block
+  pub read : stored_term (dict_of h) id image ≡ Err block
 
 -- the store is of these data, a set of triples: it shows the table of their terms and triples, and tells their name and
 -- how many terms and triples they are

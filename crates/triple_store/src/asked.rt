@@ -2,11 +2,12 @@
 ghost use Rattle.std.specs.Prelude.{◌≡◌, ◌≤◌, ◌↔◌, IsTrue, IfSome, IfNone, false};
 ghost use Rattle.term_core.specs.declared.pattern.IdTriple.{IdTriple as Ids};
 ghost use Rattle.btree_scan.specs.Cuts.{HasPrefix};
-ghost use Rattle.triple_table.specs.Keys.{order_of, ids_of_key};
-ghost use Rattle.triple_store.specs.Asked.{wanted_of, is_bound, number_of, numbers_of, width_of, front_of, takes, index_for};
+ghost use Rattle.store_image.specs.Keys.{index_numbered, ids_of_key};
+ghost use Rattle.triple_store.specs.Asked.{wanted_of, is_bound, asks_for, index_for};
+ghost use Rattle.triple_store.specs.WantedFronts.{wanted_number, numbers_of, width_of, front_of};
 
-use crate::list::key_in;
 use btree_scan::Prefix;
+use store_image::key_in;
 use term_core::IdTriple;
 
 /// The rank that is wanted at a place of a pattern.
@@ -75,7 +76,7 @@ impl Wanted {
 
     /// The rank, or 0 where there is not one.
     fn number(self) -> u32
-        ensures { result ≡ number_of self }
+        ensures { result ≡ wanted_number self }
     {
         match self {
             Wanted::Any => 0,
@@ -89,7 +90,7 @@ impl Asked {
     /// The order in which the triples that are asked for stand side by side: that in which the
     /// places that have terms come first.
     pub(crate) fn order(&self) -> u8
-        ensures is { order_of result ≡ index_for self.now }
+        ensures is { index_numbered result ≡ index_for self.now }
         ensures few { result ≤ 2 }
     {
         match (self.s.is_bound(), self.p.is_bound(), self.o.is_bound()) {
@@ -130,8 +131,8 @@ impl Asked {
     /// The front of the keys of the triples that are asked for, or nothing where none will do.
     pub(crate) fn prefix(&self) -> Option<Prefix>
         ensures len { IfSome result (λ x. x.len ≤ 3) }
-        ensures asks { IfSome result (λ x. (key : Ids) → HasPrefix x key ↔ IsTrue (takes self.now (ids_of_key (index_for self.now) key))) }
-        ensures nothing { IfNone result ((ids : Ids) → takes self.now ids ≡ false) }
+        ensures asks { IfSome result (λ x. (key : Ids) → HasPrefix x key ↔ IsTrue (asks_for self.now (ids_of_key (index_for self.now) key))) }
+        ensures nothing { IfNone result ((ids : Ids) → asks_for self.now ids ≡ false) }
     {
         if self.s.is_nothing() {
             return None;

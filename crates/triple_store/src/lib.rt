@@ -5,11 +5,7 @@ mod asked;
 mod law;
 mod list;
 mod range;
-#[cfg(test)]
-mod range_tests;
 mod store;
-#[cfg(test)]
-mod tests;
 
 pub use law::stores_stay;
 pub use range::Range;

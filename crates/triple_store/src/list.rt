@@ -1,41 +1,19 @@
 // The triples that the entries of an order's list spell.
 ghost use Rattle.std.specs.Prelude.{◌≡◌, ◌<◌, ◌≤◌, ◌+◌, ◌-◌, ◌*◌, ◌^◌, ℕ, Err, IfOk};
-ghost use Rattle.term_dict.specs.Areas.{block_of};
+ghost use Rattle.sage_outside.specs.Areas.{block_of};
 ghost use Rattle.btree_scan.specs.Entries.{area_of};
-ghost use Rattle.triple_table.specs.Keys.{order_of, key_of, ids_of_key};
-ghost use Rattle.triple_table.specs.Table.{IsBelow};
+ghost use Rattle.store_image.specs.Keys.{index_numbered, ids_of_key};
+ghost use Rattle.store_image.specs.Table.{IsBelow};
 ghost use Rattle.triple_store.specs.Entries.{named_key, ReadsEntry};
 
 use btree_scan::Tree;
 use sage_outside::ReadFault;
 use term_core::IdTriple;
 
-/// The ids of a triple, those first that the order compares first.
-#[tactic(auto, using(crate::proofs::Orders::third))]
-pub(crate) fn key_in(order: u8, ids: &IdTriple) -> IdTriple
-    ensures { result ≡ key_of (order_of order) ids.now }
-{
-    if order == 0 {
-        *ids
-    } else if order == 1 {
-        IdTriple {
-            s: ids.p,
-            p: ids.o,
-            o: ids.s,
-        }
-    } else {
-        IdTriple {
-            s: ids.o,
-            p: ids.s,
-            o: ids.p,
-        }
-    }
-}
-
 /// The triple that has a key.
 #[tactic(auto, using(crate::proofs::Orders::third))]
 fn triple_of(order: u8, key: &IdTriple) -> IdTriple
-    ensures is { result ≡ ids_of_key (order_of order) key.now }
+    ensures is { result ≡ ids_of_key (index_numbered order) key.now }
     ensures below { (n : ℕ) → key.now.s < n → key.now.p < n → key.now.o < n → IsBelow n result }
 {
     if order == 0 {

@@ -6,18 +6,17 @@ ghost use Rattle.term_core.specs.declared.term.Triple.{Triple as Triples};
 ghost use Rattle.term_core.specs.declared.pattern.IdTriple.{IdTriple as Ids};
 ghost use Rattle.sage_outside.specs.Causes.{Rose};
 ghost use Rattle.sage_outside.specs.Blocks.{HasRead, Tells};
-ghost use Rattle.sparql_tree.specs.Bgp.{pattern_of, position_of, filled};
-ghost use Rattle.plan_tree.specs.Index.{index_of};
-ghost use Rattle.plan_tree.specs.Trace.{range as agreeing, fits, agrees};
-ghost use Rattle.term_dict.specs.Layout.{Reads, longest_in};
+ghost use Rattle.term_core.specs.Patterns.{pattern_of, position_of, filled, fits, agrees};
+ghost use Rattle.term_core.specs.Index.{index_of, range as agreeing};
+ghost use Rattle.term_dict.specs.Layout.{ReadsImage, longest_record};
 ghost use Rattle.store_image.specs.Header.{dict_of};
-ghost use Rattle.triple_store.specs.Entries.{triple_at, HasEntry};
-ghost use Rattle.triple_table.specs.Table.{IsTable, IsFound, IsBelow, term_at, decode};
-ghost use Rattle.triple_table.specs.Keys.{order_of};
-ghost use Rattle.triple_store.specs.Asked.{admits, is_bound, takes, index_for};
-ghost use Rattle.triple_store.specs.Stretches.{IsStretch};
-ghost use Rattle.triple_store.specs.Stores.{View, IsKept, IsShown, IsBroken};
-ghost use Rattle.triple_store.specs.Ranges.{IsWithin, IsRangeOf, triples_at};
+ghost use Rattle.triple_store.specs.Entries.{stored_triple, HasEntry};
+ghost use Rattle.store_image.specs.Table.{IsTable, IsFound, IsBelow, term_numbered, decode};
+ghost use Rattle.store_image.specs.Keys.{index_numbered};
+ghost use Rattle.triple_store.specs.Asked.{admits, is_bound, asks_for, index_for};
+ghost use Rattle.triple_store.specs.Stretches.{IsKeyStretch};
+ghost use Rattle.triple_store.specs.Stores.{View, IsKept, IsShown, IsDamaged};
+ghost use Rattle.triple_store.specs.Ranges.{IsInStore, IsRangeOf, triples_at};
 
 use crate::asked::{Asked, Wanted};
 use crate::store::Store;
@@ -81,13 +80,13 @@ impl<B: Blocks> Store<B> {
         ensures kept { IsKept self.old self.new }
         ensures cost { HasRead self.old.device self.new.device (32 * (4 + (dict_of self.old.header).bytes / 4080)) }
         ensures few_reads { (image : List ℕ) → Tells self.old.device.image image
-            → self.new.device.reads ≤ self.old.device.reads + (25 * (4 + longest_in (dict_of self.old.header) image / 4080)) }
+            → self.new.device.reads ≤ self.old.device.reads + (25 * (4 + longest_record (dict_of self.old.header) image / 4080)) }
         ensures failed { result ≡ Err StoreFault.Blocks → Rose self.old.device.faults self.new.device.faults }
         ensures bound { IfOk result (λ w. is_bound w ≡ is_some (filled finmap.empty (position_of place.now))) }
         ensures found { (terms : List Terms) (ids : List Ids) (k : ℕ) → IsShown self.old terms ids → k < length terms
-            → IfOk result (λ w. admits w k ≡ fits (filled finmap.empty (position_of place.now)) (term_at terms k)) }
+            → IfOk result (λ w. admits w k ≡ fits (filled finmap.empty (position_of place.now)) (term_numbered terms k)) }
         ensures damaged { (image : List ℕ) (block : ℕ) → Tells self.old.device.image image
-            → result ≡ Err (StoreFault.Damaged block) → IsBroken self.old.header image block }
+            → result ≡ Err (StoreFault.Damaged block) → IsDamaged self.old.header image block }
         ensures whole { (terms : List Terms) (ids : List Ids) (block : ℕ) → IsShown self.old terms ids
             → result ≡ Err (StoreFault.Damaged block) → ⊥ }
     {
@@ -103,13 +102,13 @@ impl<B: Blocks> Store<B> {
         ensures kept { IsKept self.old self.new }
         ensures cost { HasRead self.old.device self.new.device (96 * (4 + (dict_of self.old.header).bytes / 4080)) }
         ensures few_reads { (image : List ℕ) → Tells self.old.device.image image
-            → self.new.device.reads ≤ self.old.device.reads + (75 * (4 + longest_in (dict_of self.old.header) image / 4080)) }
+            → self.new.device.reads ≤ self.old.device.reads + (75 * (4 + longest_record (dict_of self.old.header) image / 4080)) }
         ensures failed { result ≡ Err StoreFault.Blocks → Rose self.old.device.faults self.new.device.faults }
         ensures index { IfOk result (λ asked. index_for asked ≡ index_of (pattern_of p.now) finmap.empty) }
         ensures found { (terms : List Terms) (ids : List Ids) (i : Ids) → IsShown self.old terms ids → IsBelow (length terms) i
-            → IfOk result (λ asked. takes asked i ≡ agrees (pattern_of p.now) finmap.empty (decode terms i)) }
+            → IfOk result (λ asked. asks_for asked i ≡ agrees (pattern_of p.now) finmap.empty (decode terms i)) }
         ensures damaged { (image : List ℕ) (block : ℕ) → Tells self.old.device.image image
-            → result ≡ Err (StoreFault.Damaged block) → IsBroken self.old.header image block }
+            → result ≡ Err (StoreFault.Damaged block) → IsDamaged self.old.header image block }
         ensures whole { (terms : List Terms) (ids : List Ids) (block : ℕ) → IsShown self.old terms ids
             → result ≡ Err (StoreFault.Damaged block) → ⊥ }
     {
@@ -128,10 +127,10 @@ impl<B: Blocks> Store<B> {
         ensures kept { IsKept self.old self.new }
         ensures cost { HasRead self.old.device self.new.device 88 }
         ensures failed { result ≡ Err ReadFault.Blocks → Rose self.old.device.faults self.new.device.faults }
-        ensures within { IfOk result (IsWithin self.old) }
-        ensures index { IfOk result (λ r. order_of r.order ≡ index_for asked.now) }
+        ensures within { IfOk result (IsInStore self.old) }
+        ensures index { IfOk result (λ r. index_numbered r.order ≡ index_for asked.now) }
         ensures found { (terms : List Terms) (ids : List Ids) → IsShown self.old terms ids
-            → IfOk result (IsStretch (takes asked.now) ids) }
+            → IfOk result (IsKeyStretch (asks_for asked.now) ids) }
         ensures whole { (block : ℕ) → result ≡ Err (ReadFault.Damaged block) → ⊥ }
     {
         let order = asked.order();
@@ -156,16 +155,16 @@ impl<B: Blocks> Store<B> {
     /// a term came upon. `Blocks` comes only where a read failed.
     pub fn range_of(&mut self, alloc: Global, p: &Pattern) -> Result<Range, StoreFault>
         ensures kept { IsKept self.old self.new }
-        ensures index { IfOk result (λ r. order_of r.order ≡ index_of (pattern_of p.now) finmap.empty) }
-        ensures within { IfOk result (IsWithin self.old) }
+        ensures index { IfOk result (λ r. index_numbered r.order ≡ index_of (pattern_of p.now) finmap.empty) }
+        ensures within { IfOk result (IsInStore self.old) }
         ensures cost { HasRead self.old.device self.new.device (96 * (4 + (dict_of self.old.header).bytes / 4080) + 88) }
         ensures few_reads { (image : List ℕ) → Tells self.old.device.image image
-            → self.new.device.reads ≤ self.old.device.reads + (75 * (4 + longest_in (dict_of self.old.header) image / 4080) + 88) }
+            → self.new.device.reads ≤ self.old.device.reads + (75 * (4 + longest_record (dict_of self.old.header) image / 4080) + 88) }
         ensures failed { result ≡ Err StoreFault.Blocks → Rose self.old.device.faults self.new.device.faults }
         ensures found { (L : List Triples) (terms : List Terms) (ids : List Ids) → IsTable L terms ids → IsShown self.old terms ids
             → IfOk result (IsRangeOf L terms ids (pattern_of p.now)) }
         ensures damaged { (image : List ℕ) (block : ℕ) → Tells self.old.device.image image
-            → result ≡ Err (StoreFault.Damaged block) → IsBroken self.old.header image block }
+            → result ≡ Err (StoreFault.Damaged block) → IsDamaged self.old.header image block }
         ensures whole { (terms : List Terms) (ids : List Ids) (block : ℕ) → IsShown self.old terms ids
             → result ≡ Err (StoreFault.Damaged block) → ⊥ }
     {
@@ -184,13 +183,13 @@ impl<B: Blocks> Store<B> {
         ensures kept { IsKept self.old self.new }
         ensures cost { HasRead self.old.device self.new.device (96 * (4 + (dict_of self.old.header).bytes / 4080) + 88) }
         ensures few_reads { (image : List ℕ) → Tells self.old.device.image image
-            → self.new.device.reads ≤ self.old.device.reads + (75 * (4 + longest_in (dict_of self.old.header) image / 4080) + 88) }
+            → self.new.device.reads ≤ self.old.device.reads + (75 * (4 + longest_record (dict_of self.old.header) image / 4080) + 88) }
         ensures within { IfOk result (λ n. n ≤ self.old.header.triples) }
         ensures failed { result ≡ Err StoreFault.Blocks → Rose self.old.device.faults self.new.device.faults }
         ensures found { (L : List Triples) (terms : List Terms) (ids : List Ids) → IsTable L terms ids → IsShown self.old terms ids
             → IfOk result (λ n. n ≡ length (agreeing L (pattern_of p.now) finmap.empty)) }
         ensures damaged { (image : List ℕ) (block : ℕ) → Tells self.old.device.image image
-            → result ≡ Err (StoreFault.Damaged block) → IsBroken self.old.header image block }
+            → result ≡ Err (StoreFault.Damaged block) → IsDamaged self.old.header image block }
         ensures whole { (terms : List Terms) (ids : List Ids) (block : ℕ) → IsShown self.old terms ids
             → result ≡ Err (StoreFault.Damaged block) → ⊥ }
     {
@@ -203,7 +202,7 @@ impl<B: Blocks> Store<B> {
     ///
     /// `Blocks` comes only where a read failed, `Damaged` as `entry` has it, and `Memory` never.
     pub fn triple(&mut self, range: &Range, place: u32) -> Result<IdTriple, StoreFault>
-        requires range { IsWithin self.old range.now }
+        requires range { IsInStore self.old range.now }
         requires within { place < range.now.end - range.now.first }
         ensures kept { IsKept self.old self.new }
         ensures cost { HasRead self.old.device self.new.device 2 }
@@ -211,7 +210,7 @@ impl<B: Blocks> Store<B> {
         ensures own { result ≡ Err StoreFault.Memory → ⊥ }
         ensures named { IfOk result (IsBelow self.old.header.terms) }
         ensures read { (image : List ℕ) → Tells self.old.device.image image
-            → Reads (λ t. t) result (triple_at self.old.header range.now.order (range.now.first + place) image) }
+            → ReadsImage (λ t. t) result (stored_triple self.old.header range.now.order (range.now.first + place) image) }
         ensures found { (terms : List Terms) (ids : List Ids) → IsShown self.old terms ids
             → IfOk result (λ t. slice_get (triples_at ids range.now) place ≡ Some t) }
         ensures whole { (terms : List Terms) (ids : List Ids) (block : ℕ) → IsShown self.old terms ids
@@ -228,7 +227,7 @@ impl<B: Blocks> Store<B> {
     ///
     /// `Blocks` comes only where a read failed, `Damaged` and `Memory` never.
     pub fn place_of(&mut self, range: &Range, t: &IdTriple) -> Result<Option<u32>, StoreFault>
-        requires range { IsWithin self.old range.now }
+        requires range { IsInStore self.old range.now }
         ensures kept { IsKept self.old self.new }
         ensures cost { HasRead self.old.device self.new.device 46 }
         ensures within { (place : ℕ) → result ≡ Ok (Some place) → place < range.now.end - range.now.first }

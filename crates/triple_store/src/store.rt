@@ -8,26 +8,26 @@ ghost use Rattle.term_core.specs.declared.pattern.IdTriple.{IdTriple as Ids};
 ghost use Rattle.term_core.specs.Ids.{id_cmp};
 ghost use Rattle.sage_outside.specs.Causes.{Rose};
 ghost use Rattle.sage_outside.specs.Blocks.{HasRead, Tells, block_at};
-ghost use Rattle.sparql_tree.specs.Bgp.{pattern_of};
-ghost use Rattle.plan_tree.specs.Trace.{range as agreeing};
-ghost use Rattle.term_dict.specs.Layout.{Reads, term_at, longest_in};
+ghost use Rattle.term_core.specs.Patterns.{pattern_of};
+ghost use Rattle.term_core.specs.Index.{range as agreeing};
+ghost use Rattle.term_dict.specs.Layout.{ReadsImage, stored_term, longest_record};
 ghost use Rattle.term_dict.specs.Ranks.{IsRank, IsGap};
-ghost use Rattle.btree_scan.specs.Cuts.{IsRange};
-ghost use Rattle.btree_scan.specs.Entries.{entry_at};
-ghost use Rattle.triple_table.specs.Table.{IsTable, IsBelow, IsFound};
-ghost use Rattle.triple_table.specs.Keys.{order_of, key_of, keys_by};
+ghost use Rattle.btree_scan.specs.Cuts.{IsKeyRange};
+ghost use Rattle.btree_scan.specs.Entries.{stored_entry};
+ghost use Rattle.store_image.specs.Table.{IsTable, IsBelow, IsFound};
+ghost use Rattle.store_image.specs.Keys.{index_numbered, key_in, keys_by};
 ghost use Rattle.store_image.specs.declared.header.Header.{Header as Headers};
 ghost use Rattle.store_image.specs.Holds.{Holds};
 ghost use Rattle.store_image.specs.Header.{IsHeader, dict_of, tree_of};
-ghost use Rattle.triple_store.specs.Stores.{View, IsOpened, IsKept, IsShown, IsBroken, IsStoreOf};
-ghost use Rattle.triple_store.specs.Entries.{ReadsEntry, HasEntry, triple_at};
+ghost use Rattle.triple_store.specs.Stores.{View, IsOpened, IsKept, IsShown, IsDamaged, IsStoreOf};
+ghost use Rattle.triple_store.specs.Entries.{ReadsEntry, HasEntry, stored_triple};
 
-use crate::list::{key_in, named};
+use crate::list::named;
 use btree_scan::{Prefix, entry, lower_bound, range};
 use sage_outside::{Blocks, ReadFault, StoreFault};
 use std::alloc::Global;
 use std::marker::Model;
-use store_image::Header;
+use store_image::{Header, key_in};
 use term_core::{IdTriple, Memory, Pattern, Term};
 
 /// An opened store: its blocks, and the header that the first of them told.
@@ -156,10 +156,10 @@ impl<B: Blocks> Store<B> {
         ensures kept { IsKept self.old self.new }
         ensures cost { HasRead self.old.device self.new.device (4 + (dict_of self.old.header).bytes / 4080) }
         ensures few_reads { (image : List ℕ) → Tells self.old.device.image image
-            → self.new.device.reads ≤ self.old.device.reads + (4 + longest_in (dict_of self.old.header) image / 4080) }
+            → self.new.device.reads ≤ self.old.device.reads + (4 + longest_record (dict_of self.old.header) image / 4080) }
         ensures failed { result ≡ Err StoreFault.Blocks → Rose self.old.device.faults self.new.device.faults }
         ensures read { (image : List ℕ) → Tells self.old.device.image image
-            → Reads (λ t. t) result (term_at (dict_of self.old.header) id image) }
+            → ReadsImage (λ t. t) result (stored_term (dict_of self.old.header) id image) }
         ensures found { (terms : List Terms) (ids : List Ids) → IsShown self.old terms ids
             → IfOk result (λ t. slice_get terms id ≡ Some t) }
         ensures whole { (terms : List Terms) (ids : List Ids) (block : ℕ) → IsShown self.old terms ids
@@ -179,15 +179,15 @@ impl<B: Blocks> Store<B> {
         ensures kept { IsKept self.old self.new }
         ensures cost { HasRead self.old.device self.new.device (32 * (4 + (dict_of self.old.header).bytes / 4080)) }
         ensures few_reads { (image : List ℕ) → Tells self.old.device.image image
-            → self.new.device.reads ≤ self.old.device.reads + 25 * (4 + longest_in (dict_of self.old.header) image / 4080) }
+            → self.new.device.reads ≤ self.old.device.reads + 25 * (4 + longest_record (dict_of self.old.header) image / 4080) }
         ensures failed { result ≡ Err StoreFault.Blocks → Rose self.old.device.faults self.new.device.faults }
         ensures there { (image : List ℕ) (k : ℕ) → Tells self.old.device.image image
             → result ≡ Ok (Some k)
-            → (k < self.old.header.terms) × (term_at (dict_of self.old.header) k image ≡ Ok t.now) }
+            → (k < self.old.header.terms) × (stored_term (dict_of self.old.header) k image ≡ Ok t.now) }
         ensures absent { (image : List ℕ) → Tells self.old.device.image image
             → result ≡ Ok None → IsGap (dict_of self.old.header) t.now image }
         ensures damaged { (image : List ℕ) (block : ℕ) → Tells self.old.device.image image
-            → result ≡ Err (StoreFault.Damaged block) → IsBroken self.old.header image block }
+            → result ≡ Err (StoreFault.Damaged block) → IsDamaged self.old.header image block }
         ensures found { (terms : List Terms) (ids : List Ids) → IsShown self.old terms ids
             → IfOk result (IsRank terms t.now) }
         ensures whole { (terms : List Terms) (ids : List Ids) (block : ℕ) → IsShown self.old terms ids
@@ -247,7 +247,7 @@ impl<B: Blocks> Store<B> {
         ensures failed { result ≡ Err ReadFault.Blocks → Rose self.old.device.faults self.new.device.faults }
         ensures within { IfOk result (λ n. n ≤ self.old.header.triples) }
         ensures found { (terms : List Terms) (ids : List Ids) → IsShown self.old terms ids
-            → IfOk result (λ n. n ≡ count_by (λ k. is_lt (id_cmp k (key_of (order_of order) key.now))) (keys_by (order_of order) ids)) }
+            → IfOk result (λ n. n ≡ count_by (λ k. is_lt (id_cmp k (key_in (index_numbered order) key.now))) (keys_by (index_numbered order) ids)) }
         ensures whole { (block : ℕ) → result ≡ Err (ReadFault.Damaged block) → ⊥ }
     {
         let list = self.header.tree(order);
@@ -267,7 +267,7 @@ impl<B: Blocks> Store<B> {
         ensures failed { result ≡ Err ReadFault.Blocks → Rose self.old.device.faults self.new.device.faults }
         ensures within { IfOk result (λ x. (x.0 ≤ x.1) × (x.1 ≤ self.old.header.triples)) }
         ensures found { (terms : List Terms) (ids : List Ids) → IsShown self.old terms ids
-            → IfOk result (λ x. IsRange prefix.now (keys_by (order_of order) ids) x.0 x.1) }
+            → IfOk result (λ x. IsKeyRange prefix.now (keys_by (index_numbered order) ids) x.0 x.1) }
         ensures whole { (block : ℕ) → result ≡ Err (ReadFault.Damaged block) → ⊥ }
     {
         let list = self.header.tree(order);
@@ -288,9 +288,9 @@ impl<B: Blocks> Store<B> {
         ensures failed { result ≡ Err ReadFault.Blocks → Rose self.old.device.faults self.new.device.faults }
         ensures named { IfOk result (λ t. IsBelow self.old.header.terms t) }
         ensures read { (image : List ℕ) → Tells self.old.device.image image
-            → ReadsEntry result (triple_at self.old.header order place image) }
+            → ReadsEntry result (stored_triple self.old.header order place image) }
         ensures found { (terms : List Terms) (ids : List Ids) → IsShown self.old terms ids
-            → IfOk result (λ t. slice_get (keys_by (order_of order) ids) place ≡ Some (key_of (order_of order) t)) }
+            → IfOk result (λ t. slice_get (keys_by (index_numbered order) ids) place ≡ Some (key_in (index_numbered order) t)) }
         ensures whole { (terms : List Terms) (ids : List Ids) (block : ℕ) → IsShown self.old terms ids
             → result ≡ Err (ReadFault.Damaged block) → ⊥ }
     {
@@ -308,9 +308,9 @@ impl<B: Blocks> Store<B> {
         ensures cost { HasRead self.old.device self.new.device 2 }
         ensures failed { result ≡ Err ReadFault.Blocks → Rose self.old.device.faults self.new.device.faults }
         ensures read { (image : List ℕ) → Tells self.old.device.image image
-            → IfOk result (λ key. key ≡ entry_at (tree_of self.old.header order) place image) }
+            → IfOk result (λ key. key ≡ stored_entry (tree_of self.old.header order) place image) }
         ensures found { (terms : List Terms) (ids : List Ids) → IsShown self.old terms ids
-            → IfOk result (λ key. slice_get (keys_by (order_of order) ids) place ≡ Some key) }
+            → IfOk result (λ key. slice_get (keys_by (index_numbered order) ids) place ≡ Some key) }
         ensures whole { (block : ℕ) → result ≡ Err (ReadFault.Damaged block) → ⊥ }
     {
         let list = self.header.tree(order);
@@ -326,7 +326,7 @@ impl<B: Blocks> Store<B> {
         ensures there { (image : List ℕ) (place : ℕ) → Tells self.old.device.image image → result ≡ Ok (Some place)
             → HasEntry self.old.header order t.now image place }
         ensures found { (terms : List Terms) (ids : List Ids) → IsShown self.old terms ids
-            → IfOk result (IsFound (keys_by (order_of order) ids) (key_of (order_of order) t.now)) }
+            → IfOk result (IsFound (keys_by (index_numbered order) ids) (key_in (index_numbered order) t.now)) }
         ensures whole { (block : ℕ) → result ≡ Err (ReadFault.Damaged block) → ⊥ }
     {
         let place = self.lower_bound(order, t)?;

@@ -1,6 +1,6 @@
 use Rattle.std.proofs.Common.{◌≡◌, count_by, false, arith}
 use Rattle.btree_scan.specs.declared.prefix.Prefix.{Prefix}
-use Rattle.btree_scan.specs.Cuts.{IsEdge, before, front_cmp}
+use Rattle.btree_scan.specs.Cuts.{IsEdge, stands_before, front_cmp}
 use Rattle.btree_scan.proofs.Keys.{edge_counts}
 use Rattle.btree_scan.proofs.Halves.{if_ok_then}
 use Rattle.btree_scan.proofs.search.lower_bound.Goals as goal
@@ -14,5 +14,5 @@ unfolding front_cmp
 returns-clause-found g c = λ es image tells lists.
     let key = c.args.key.now in
     let prefix : Prefix = record { len = 3; a = key.s; b = key.p; c = key.o } in
-    if_ok_then c.cut_place.result (IsEdge c.args.tree.now (before false prefix) image) (λ n. n ≡ count_by (before false prefix) es)
+    if_ok_then c.cut_place.result (IsEdge c.args.tree.now (stands_before false prefix) image) (λ n. n ≡ count_by (stands_before false prefix) es)
     (λ n edge. edge_counts c.args.tree.now es image false prefix n lists edge) (c.cut_place.ensures.edge image tells (λ k e. absurd (omega arith)))

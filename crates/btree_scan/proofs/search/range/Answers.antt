@@ -1,19 +1,19 @@
 use Rattle.std.proofs.Common.{true, false, arith}
-use Rattle.term_dict.proofs.Answered.{still, if_ok}
-use Rattle.btree_scan.specs.Cuts.{IsEdge, before}
-use Rattle.btree_scan.specs.Entries.{entry_at}
+use Rattle.sage_outside.proofs.Answered.{still, if_ok}
+use Rattle.btree_scan.specs.Cuts.{IsEdge, stands_before}
+use Rattle.btree_scan.specs.Entries.{stored_entry}
 use Rattle.btree_scan.proofs.Keys.{edges_range, through_too}
 use Rattle.btree_scan.proofs.search.range.Goals as goal
 
 pub returns-clause-edges : goal.returns-clause-edges
 returns-clause-edges g c = λ image tells.
-    let test = before false c.args.prefix.now in
+    let test = stands_before false c.args.prefix.now in
     let first : IsEdge c.args.tree.now test image c.in_ok-first.first = if_ok c.cut_place.result c.in_ok-first.first (IsEdge c.args.tree.now test image) c.in_ok-first.was
     (c.cut_place.ensures.edge image tells (λ k e. absurd (omega arith))) in (
       first,
-      if_ok c.cut_place-2.result c.in_ok-end.end (IsEdge c.args.tree.now (before true c.args.prefix.now) image) c.in_ok-end.was
+      if_ok c.cut_place-2.result c.in_ok-end.end (IsEdge c.args.tree.now (stands_before true c.args.prefix.now) image) c.in_ok-end.was
           (c.cut_place-2.ensures.edge image (still _ _ image c.cut_place.ensures.read.image tells)
-          (λ k e. through_too c.args.prefix.now (entry_at c.args.tree.now k image) (first.below k e))),
+          (λ k e. through_too c.args.prefix.now (stored_entry c.args.tree.now k image) (first.below k e))),
     )
 
 pub returns-clause-found : goal.returns-clause-found

@@ -1,7 +1,7 @@
 use Rattle.std.proofs.Common.{◌≡◌, Err, refl, sym, subst, arith, Vec, ℕ, Global}
 use Rattle.triple_store.specs.Stores.{IsKept}
 use Rattle.pattern_page.specs.declared.follow.Walk.{Walk}
-use Rattle.pattern_page.specs.PagesOf.{seen}
+use Rattle.pattern_page.specs.PagesOf.{part_seen}
 use Rattle.pattern_page.specs.Followed.{next_in, IsGiven, IsFollowed}
 use Rattle.pattern_page.proofs.Refusals.{kept_none, kept_twice, still_within, still_part, may_passed}
 use Rattle.pattern_page.proofs.FollowLinks.{followed_passed}
@@ -25,7 +25,7 @@ returns-in_err-give-clause-refused g c =
 pub returns-in_err-give-clause-pages : goal.returns-in_err-give-clause-pages
 returns-in_err-give-clause-pages g c = λ D pattern h.
     let walked = c.pages.invariant.1 D pattern h in
-    let part = seen c.args.part.now h.terms h.ids in
+    let part = part_seen c.args.part.now h.terms h.ids in
     let few = counted_few D pattern part h.is_of c.args.quanta.now c.requires.some c.args.names.now c.pages.page c.pages.walk c.args.out.now.items c.pages.out.items walked in
     followed_passed D pattern c.quantum_of-quantum.result c.args.quanta.now c.args.names.now c.pages.walk c.give.new.walk c.args.out.now.items c.pages.out.items c.give.new.out.items
     c.from_residual.result c.in_err-give.field-0.0 c.from_residual.ensures
@@ -37,7 +37,7 @@ pages-preserved g c = (
   kept_twice c.args.store.now c.pages.store c.give.new.store c.pages.invariant.0 c.give.ensures.kept,
   λ D pattern h.
       let walked = c.pages.invariant.1 D pattern h in
-      let part = seen c.args.part.now h.terms h.ids in
+      let part = part_seen c.args.part.now h.terms h.ids in
       let few = counted_few D pattern part h.is_of c.args.quanta.now c.requires.some c.args.names.now c.pages.page c.pages.walk c.args.out.now.items c.pages.out.items walked in
       let given = c.in_ok-give.ensures.page D pattern (still_part D pattern c.args.store.now c.pages.store c.args.part.now c.pages.invariant.0 h) walked.begins few in
       walked_more D pattern part h.is_of c.args.quanta.now c.requires.some c.args.names.now c.pages.page c.pages.walk c.give.new.walk c.args.out.now.items c.pages.out.items c.give.new.out.items c.in_ok-give.field-0
@@ -55,7 +55,7 @@ returns-clause-kept g c =
 pub returns-clause-pages : goal.returns-clause-pages
 returns-clause-pages g c = λ D pattern h.
     let walked = c.pages.invariant.1 D pattern h in
-    let part = seen c.args.part.now h.terms h.ids in
+    let part = part_seen c.args.part.now h.terms h.ids in
     let few = counted_few D pattern part h.is_of c.args.quanta.now c.requires.some c.args.names.now c.pages.page c.pages.walk c.args.out.now.items c.pages.out.items walked in
     let before = c.args.out.now.items in
     let ends = IsFollowed D pattern c.args.quanta.now c.args.names.now in

@@ -3,7 +3,7 @@ use Rattle.std.proofs.lemmas.Grind.{common_steps}
 use Rattle.std.specs.Prelude.{flat_map}
 use Rattle.pattern_page.specs.Results.{line}
 use Rattle.pattern_page.specs.declared.page.PageFault.{PageFault}
-use Rattle.pattern_page.specs.PagesOf.{seen, page_of}
+use Rattle.pattern_page.specs.PagesOf.{part_seen, page_of}
 use Rattle.pattern_page.specs.Followed.{next_in, IsTurned}
 use Rattle.pattern_page.proofs.FollowLinks.{pages_fit, steps_fit, given_passed}
 use Rattle.pattern_page.proofs.follow.give.Goals as goal
@@ -16,7 +16,7 @@ returns-in_err-page-clause-page g c = λ D pattern h b few.
 
 pub returns-clause-page : goal.returns-clause-page
 returns-clause-page g c = λ D pattern h b few.
-    let part = seen c.args.part.now h.terms h.ids in
+    let part = part_seen c.args.part.now h.terms h.ids in
     let walk = c.args.walk.now in
     let page = c.in_ok-page.ensures.page D pattern h b in
     record {

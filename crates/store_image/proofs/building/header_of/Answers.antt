@@ -1,5 +1,5 @@
 use Rattle.std.proofs.Common.{arith}
-use Rattle.triple_table.specs.Table.{terms_in}
+use Rattle.store_image.specs.Table.{terms_in}
 use Rattle.store_image.proofs.Sizes.{extent_small}
 use Rattle.store_image.proofs.building.header_of.Goals as goal
 

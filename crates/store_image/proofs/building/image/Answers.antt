@@ -1,7 +1,7 @@
 use Rattle.std.proofs.Common.{◌≡◌, ◌∙◌, ℕ, List, Result, Ok, Err, IfOk, OnOk, sym, ap, subst, arith}
 use Rattle.term_dict.specs.Built.{AreTexts}
-use Rattle.plan_tree.specs.Spelling.{data_id}
-use Rattle.triple_table.specs.Table.{terms_in, ids_in}
+use Rattle.term_core.specs.Data.{data_id}
+use Rattle.store_image.specs.Table.{terms_in, ids_in}
 use Rattle.store_image.specs.Holds.{Holds}
 use Rattle.store_image.specs.Image.{areas, header_of}
 use Rattle.store_image.proofs.Sizes.{no_more, short_places}
@@ -30,4 +30,4 @@ returns-clause-holds c =
     let name : c.in_ok-name.name ≡ data_id L = c.in_ok-name.ensures L c.in_ok-table.ensures in
     let header : c.header_of-header.result ≡ header_of terms ids (data_id L) = c.header_of-header.ensures ∙ ap (header_of terms ids) name in
     bytes_hold (λ image. image.items) c.written.result (areas c.header_of-header.result terms ids) (Holds L) (AreTexts terms) c.written.ensures.image c.written.ensures.texts
-    (λ texts. subst (λ h. Holds L (areas h terms ids)) (sym header) (image_holds L terms ids c.in_ok-table.ensures c.requires.few c.requires.short texts))
+    (λ texts. subst (λ h. Holds L (areas h terms ids)) (sym header) (image_holds L terms ids c.in_ok-table.ensures c.requires.few c.requires.allowed c.requires.spelled c.requires.short texts))

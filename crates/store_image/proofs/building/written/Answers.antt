@@ -1,10 +1,10 @@
 use Rattle.std.proofs.Common.{◌≡◌, ◌++◌, sym, ap, ◌∙◌, subst}
 use Rattle.term_dict.specs.Built.{records_of, AreTexts}
 use Rattle.btree_build.specs.Lists.{list_bytes}
-use Rattle.plan_tree.specs.Index.{by_subject, by_predicate, by_object}
-use Rattle.triple_table.specs.Table.{terms_in, ids_in}
-use Rattle.triple_table.specs.Keys.{keys_by}
-use Rattle.triple_table.proofs.Keys.{keys_by_subject}
+use Rattle.term_core.specs.Index.{by_subject, by_predicate, by_object}
+use Rattle.store_image.specs.Table.{terms_in, ids_in}
+use Rattle.store_image.specs.Keys.{keys_by}
+use Rattle.store_image.proofs.Keys.{keys_by_subject}
 use Rattle.store_image.specs.Header.{header_bytes}
 use Rattle.store_image.specs.Image.{padded, place_bytes}
 use Rattle.store_image.proofs.Areas.{six_put}

@@ -4,7 +4,7 @@ use Rattle.std.proofs.lemmas.Option.{slice_get_read}
 use Rattle.std.proofs.lemmas.Grind.{common_steps}
 use Rattle.term_dict.specs.Records.{record_of}
 use Rattle.term_dict.specs.Built.{IsText}
-use Rattle.term_dict.proofs.Answered.{on_ok}
+use Rattle.sage_outside.proofs.Answered.{on_ok}
 use Rattle.term_dict.proofs.Ranks.{inside}
 use Rattle.term_dict.proofs.Steps.{record_short, records_more, places_more, longest_more, before_more}
 use Rattle.term_dict.proofs.dict_image.image_of.Goals as goal

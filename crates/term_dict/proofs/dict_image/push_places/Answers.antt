@@ -1,6 +1,6 @@
 use Rattle.std.proofs.Common.{◌≡◌, ◌+◌, ◌++◌, map, ap, arith}
 use Rattle.std.specs.Int.{w64, to_be_bytes}
-use Rattle.term_dict.proofs.Answered.{on_ok}
+use Rattle.sage_outside.proofs.Answered.{on_ok}
 use Rattle.term_dict.proofs.Steps.{mapped_within, mapped_read, mapped_at, record_short, numbers_more}
 use Rattle.term_dict.proofs.dict_image.push_places.Goals as goal
 

@@ -3,7 +3,7 @@ use Rattle.std.specs.List.{slice_get}
 use Rattle.std.proofs.lemmas.List.{length-map}
 use Rattle.term_dict.specs.Records.{record_of}
 use Rattle.term_dict.specs.Built.{IsText}
-use Rattle.term_dict.proofs.Answered.{on_ok}
+use Rattle.sage_outside.proofs.Answered.{on_ok}
 use Rattle.term_dict.proofs.Ranks.{inside}
 use Rattle.term_dict.proofs.Steps.{mapped_within, mapped_read, mapped_at, records_more, before_more}
 use Rattle.term_dict.proofs.dict_image.push_records.Goals as goal

@@ -1,6 +1,6 @@
 use Rattle.std.proofs.Common.{◌≡◌, sym, subst, arith}
 use Rattle.triple_store.specs.Stores.{IsKept}
-use Rattle.pattern_page.specs.PagesOf.{seen, IsAt, IsStretch}
+use Rattle.pattern_page.specs.PagesOf.{part_seen, IsAt, IsStretchFrom}
 use Rattle.pattern_page.proofs.PageRun.{none_yet, one_more, stopped, full}
 use Rattle.pattern_page.proofs.Refusals.{kept_none, kept_twice, still_within, still_seen, refused_later}
 use Rattle.pattern_page.proofs.page.Part.run.Goals as goal
@@ -36,7 +36,7 @@ steps-preserved g c = record {
   at = c.in_ok-extend.ensures.within;
   few = omega (arith, c.steps.invariant.few, c.in_ok-extend.ensures.counted);
   way = λ terms ids s.
-      one_more (seen c.args.self.now terms ids) c.args.start c.steps.stretch c.extend.new.stretch c.steps.counter c.in_ok-extend.field-0 (c.steps.invariant.way terms ids s)
+      one_more (part_seen c.args.self.now terms ids) c.args.start c.steps.stretch c.extend.new.stretch c.steps.counter c.in_ok-extend.field-0 (c.steps.invariant.way terms ids s)
       (c.in_ok-extend.ensures.found terms ids (still_seen c.args.store.now c.steps.store c.args.self.now terms ids c.steps.invariant.kept s)) c.if-not-branch.false;
 }
 
@@ -57,11 +57,11 @@ returns-clause-within g c =
 
 pub returns-clause-found : goal.returns-clause-found
 returns-clause-found g c = λ terms ids s.
-    let part = seen c.args.self.now terms ids in
+    let part = part_seen c.args.self.now terms ids in
     elim c.steps-test.branch [
-      | else-steps-test w ↦ subst (IsStretch part c.args.start c.args.quantum) (sym w.stretch-is)
+      | else-steps-test w ↦ subst (IsStretchFrom part c.args.start c.args.quantum) (sym w.stretch-is)
           (full part c.args.start c.args.quantum c.steps.counter c.steps.stretch (c.steps.invariant.way terms ids s) c.steps.auto.counter-end w.steps-test.false)
-      | then-steps-test+in_ok-extend+then-not-branch w ↦ subst (IsStretch part c.args.start c.args.quantum) (sym w.stretch-is)
+      | then-steps-test+in_ok-extend+then-not-branch w ↦ subst (IsStretchFrom part c.args.start c.args.quantum) (sym w.stretch-is)
           (stopped part c.args.start c.args.quantum c.steps.counter c.steps.stretch w.extend.new.stretch w.in_ok-extend.field-0 (c.steps.invariant.way terms ids s) c.steps.auto.counter-end
           (w.in_ok-extend.ensures.found terms ids (still_seen c.args.store.now c.steps.store c.args.self.now terms ids c.steps.invariant.kept s)) w.if-not-branch.true)
     ]

@@ -1,7 +1,7 @@
 use Rattle.std.proofs.Common.{◌≡◌, Some, IfOk, sym, ap, ◌∙◌, subst}
-use Rattle.sparql_tree.specs.Bgp.{position_of}
+use Rattle.term_core.specs.Patterns.{position_of}
 use Rattle.plan_tree.specs.Trace.{bind_at}
-use Rattle.triple_table.specs.Table.{term_at}
+use Rattle.store_image.specs.Table.{term_numbered}
 use Rattle.pattern_page.proofs.Refusals.{refused_later, all_later, kept_twice, still_shown}
 use Rattle.pattern_page.proofs.page.Part.solve.Goals as goal
 
@@ -22,6 +22,6 @@ returns-clause-found g c = λ terms ids s.
     let kept = kept_twice c.args.store.now c.bind.new.store c.bind-2.new.store c.bind.ensures.kept c.bind-2.ensures.kept in
     let first = c.in_ok-row.ensures.found terms ids s.shown in
     let second = c.in_ok-row-2.ensures.found terms ids (still_shown c.args.store.now c.bind.new.store terms ids c.bind.ensures.kept s.shown) in
-    subst (λ row. IfOk c.bind-3.result (λ r. r ≡ bind_at (position_of p.object) (term_at terms t.o) row))
-    (second ∙ ap (λ row. bind_at (position_of p.predicate) (term_at terms t.p) row) (first ∙ ap (λ row. bind_at (position_of p.subject) (term_at terms t.s) (Some row)) c.empty.ensures))
+    subst (λ row. IfOk c.bind-3.result (λ r. r ≡ bind_at (position_of p.object) (term_numbered terms t.o) row))
+    (second ∙ ap (λ row. bind_at (position_of p.predicate) (term_numbered terms t.p) row) (first ∙ ap (λ row. bind_at (position_of p.subject) (term_numbered terms t.s) (Some row)) c.empty.ensures))
     (c.bind-3.ensures.found terms ids (still_shown c.args.store.now c.bind-2.new.store terms ids kept s.shown))

@@ -1,7 +1,7 @@
 use Rattle.std.proofs.Common.{Err, sym, ap, ◌∙◌}
 use Rattle.std.specs.Prelude.{option_map}
 use Rattle.pattern_page.specs.StateReading.{at_state}
-use Rattle.pattern_page.specs.PagesOf.{seen, cursor_state}
+use Rattle.pattern_page.specs.PagesOf.{part_seen, cursor_state}
 use Rattle.pattern_page.proofs.Refusals.{refused_same}
 use Rattle.pattern_page.proofs.page.Part.state.Goals as goal
 
@@ -12,4 +12,4 @@ returns-in_err-triple-in-After-clause-refused g c =
 
 pub returns-in_ok-triple-in-After-clause-found : goal.returns-in_ok-triple-in-After-clause-found
 returns-in_ok-triple-in-After-clause-found g c = λ terms ids s.
-    sym (ap (cursor_state (seen c.args.self.now terms ids)) c.in-After.is ∙ ap (option_map at_state) (c.in_ok-triple-in-After.ensures.found terms ids s.shown))
+    sym (ap (cursor_state (part_seen c.args.self.now terms ids)) c.in-After.is ∙ ap (option_map at_state) (c.in_ok-triple-in-After.ensures.found terms ids s.shown))

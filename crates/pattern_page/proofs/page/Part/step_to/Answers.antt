@@ -1,5 +1,5 @@
 use Rattle.std.proofs.Common.{Err, ap, ◌∙◌, arith}
-use Rattle.pattern_page.specs.PagesOf.{seen}
+use Rattle.pattern_page.specs.PagesOf.{part_seen}
 use Rattle.pattern_page.proofs.Refusals.{refused_store, refused_later, still_seen}
 use Rattle.pattern_page.proofs.PageCursor.{gives_triple}
 use Rattle.pattern_page.proofs.page.Part.step_to.Goals as goal
@@ -16,7 +16,7 @@ returns-in_err-row-clause-refused g c =
 
 pub returns-in_ok-row-clause-found : goal.returns-in_ok-row-clause-found
 returns-in_ok-row-clause-found g c = λ terms ids s.
-    let part = seen c.args.self.now terms ids in (
+    let part = part_seen c.args.self.now terms ids in (
       omega (arith, c.if-place-len.true, c.len.ensures, s.count),
       gives_triple part c.args.place c.in_ok-triple.triple c.in_ok-row.row (c.in_ok-triple.ensures.found terms ids s.shown)
           (c.in_ok-row.ensures.found terms ids (still_seen c.args.store.now c.triple.new.self c.args.self.now terms ids c.triple.ensures.kept s)),

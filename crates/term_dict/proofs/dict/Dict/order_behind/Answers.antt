@@ -1,8 +1,8 @@
 use Rattle.std.proofs.Common.{◌≡◌, ◌+◌, ◌-◌, ◌++◌, ◌∙◌, List, ℕ, Ok, ap, arith, length, refl, subst}
-use Rattle.term_dict.specs.Areas.{part_of, block_of}
+use Rattle.sage_outside.specs.Areas.{part_of, block_of}
 use Rattle.term_dict.specs.Fronts.{IsDecided}
 use Rattle.term_dict.specs.Layout.{record_area}
-use Rattle.term_dict.proofs.Answered.{if_ok, if_some}
+use Rattle.sage_outside.proofs.Answered.{if_ok, if_some}
 use Rattle.term_dict.proofs.Behind.{part_joined, front_compares, in_span}
 use Rattle.term_dict.proofs.dict.Dict.order_behind.Goals as goal
 

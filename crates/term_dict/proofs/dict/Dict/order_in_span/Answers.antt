@@ -1,10 +1,10 @@
 use Rattle.std.proofs.Common.{◌≡◌, ◌+◌, ◌-◌, ◌*◌, ◌%◌, ◌/◌, ◌≤◌, ◌∙◌, min, Ok, sym, ap, arith, length, subst}
 use Rattle.std.proofs.lemmas.Grind.{common_steps}
-use Rattle.term_dict.specs.Areas.{part_of, touched}
+use Rattle.sage_outside.specs.Areas.{part_of, touched}
 use Rattle.term_dict.specs.Layout.{record_area, record_in, raw_record_in}
 use Rattle.term_dict.specs.Ranks.{Compares}
-use Rattle.term_dict.proofs.Answered.{if_ok, still}
-use Rattle.term_dict.proofs.Touched.{front_touched, rest_touched}
+use Rattle.sage_outside.proofs.Answered.{if_ok, still}
+use Rattle.sage_outside.proofs.Touched.{front_touched, rest_touched}
 use Rattle.term_dict.proofs.dict.Dict.order_in_span.Goals as goal
 
 pub order_behind-requires-clause-front : goal.order_behind-requires-clause-front

@@ -1,8 +1,8 @@
 use Rattle.std.proofs.Common.{◌≡◌, ◌*◌, ◌∙◌, ap, arith, length}
 use Rattle.std.specs.Int.{w64, from_be_bytes}
-use Rattle.term_dict.specs.Areas.{part_of}
+use Rattle.sage_outside.specs.Areas.{part_of}
 use Rattle.term_dict.specs.Layout.{place_area}
-use Rattle.term_dict.proofs.Answered.{on_ok}
+use Rattle.sage_outside.proofs.Answered.{on_ok}
 use Rattle.term_dict.proofs.Places.{first_place, second_place}
 use Rattle.term_dict.proofs.dict.Dict.place_pair.Goals as goal
 

@@ -1,9 +1,10 @@
 use Rattle.std.proofs.Common.{◌+◌, ◌-◌, ◌/◌, ◌≤◌, arith, ◌≡◌, ◌∙◌, sym, ap, Some}
-use Rattle.term_dict.specs.Layout.{longest_in}
-use Rattle.term_dict.proofs.Answered.{still}
+use Rattle.term_dict.specs.Layout.{longest_record}
+use Rattle.sage_outside.proofs.Answered.{still}
 use Rattle.term_dict.proofs.Held.{no_longer}
 use Rattle.term_dict.proofs.Ranks.{place_is_rank}
-use Rattle.term_dict.proofs.Halves.{narrow_less, narrow_greater, nowhere, halved, ended, few_steps, cost_step, compared_here, compared_held, lower_here, tie_at, damaged_at, few_more, four_more}
+use Rattle.sage_outside.proofs.Halves.{halved}
+use Rattle.term_dict.proofs.Halves.{narrow_less, narrow_greater, nowhere, ended, few_steps, cost_step, compared_here, compared_held, lower_here, tie_at, damaged_at, few_more, four_more}
 use Rattle.term_core.specs.OrderLaws.{same_terms}
 use Rattle.term_dict.proofs.dict.Dict.rank_of.Goals.{in-Less, in-Greater}
 use Rattle.term_dict.proofs.dict.Dict.rank_of.Goals as goal
@@ -17,9 +18,9 @@ loop-step-preserved g c = record {
   cost = cost_step _ (g.B.Blocks.device c.loop-step.blocks).reads _ c.loop-step.step (4 + c.args.self.now.bytes / 4080) c.loop-step.invariant.cost c.order_at.ensures.read.cost;
   few_reads = λ image tells.
       let m = c.loop-step.low + (c.loop-step.high - c.loop-step.low) / 2 in
-      let more : (g.B.Blocks.device c.order_at.new.blocks).reads ≤ (g.B.Blocks.device c.loop-step.blocks).reads + (4 + longest_in c.args.self.now image / 4080) =
+      let more : (g.B.Blocks.device c.order_at.new.blocks).reads ≤ (g.B.Blocks.device c.loop-step.blocks).reads + (4 + longest_record c.args.self.now image / 4080) =
       omega (arith, no_longer c.args.self.now image m (omega arith), c.order_at.ensures.few_reads image (still _ _ image c.loop-step.invariant.image tells)) in
-      cost_step _ (g.B.Blocks.device c.loop-step.blocks).reads _ c.loop-step.step (4 + longest_in c.args.self.now image / 4080) (c.loop-step.invariant.few_reads image tells) more;
+      cost_step _ (g.B.Blocks.device c.loop-step.blocks).reads _ c.loop-step.step (4 + longest_record c.args.self.now image / 4080) (c.loop-step.invariant.few_reads image tells) more;
   few_steps = λ few. omega (arith, few_steps (c.loop-step.high - c.loop-step.low) c.loop-step.step _ (omega arith) c.loop-step.invariant.small few);
   ordered = elim c.match-order.branch [ in-Less w ↦ omega arith | in-Greater w ↦ omega arith ];
   lower = λ image tells k e.
@@ -64,7 +65,7 @@ returns-clause-found g c = λ ts image tells holds.
 pub returns-in-Err-clause-few_reads : goal.returns-in-Err-clause-few_reads
 returns-in-Err-clause-few_reads g c = λ image tells few.
     let m = c.loop-step.low + (c.loop-step.high - c.loop-step.low) / 2 in
-    few_more _ (g.B.Blocks.device c.loop-step.blocks).reads _ c.loop-step.step (4 + longest_in c.args.self.now image / 4080) _
+    few_more _ (g.B.Blocks.device c.loop-step.blocks).reads _ c.loop-step.step (4 + longest_record c.args.self.now image / 4080) _
     (c.loop-step.invariant.few_reads image tells) (c.order_at.ensures.few_reads image (still _ _ image c.loop-step.invariant.image tells))
     (four_more _ _ (no_longer c.args.self.now image m (omega arith)))
     (few_steps (c.loop-step.high - c.loop-step.low) c.loop-step.step _ (omega arith) c.loop-step.invariant.small few)
@@ -72,7 +73,7 @@ returns-in-Err-clause-few_reads g c = λ image tells few.
 pub returns-in-Equal-clause-few_reads : goal.returns-in-Equal-clause-few_reads
 returns-in-Equal-clause-few_reads g c = λ image tells few.
     let m = c.loop-step.low + (c.loop-step.high - c.loop-step.low) / 2 in
-    few_more _ (g.B.Blocks.device c.loop-step.blocks).reads _ c.loop-step.step (4 + longest_in c.args.self.now image / 4080) _
+    few_more _ (g.B.Blocks.device c.loop-step.blocks).reads _ c.loop-step.step (4 + longest_record c.args.self.now image / 4080) _
     (c.loop-step.invariant.few_reads image tells) (c.order_at.ensures.few_reads image (still _ _ image c.loop-step.invariant.image tells))
     (four_more _ _ (no_longer c.args.self.now image m (omega arith)))
     (few_steps (c.loop-step.high - c.loop-step.low) c.loop-step.step _ (omega arith) c.loop-step.invariant.small few)

@@ -2,8 +2,8 @@ use Rattle.std.proofs.Common.{◌≡◌, ◌≤◌, ◌<◌, Ok, Less, Greater, 
 use Rattle.sage_outside.specs.Blocks.{Tells}
 use Rattle.term_core.specs.declared.term.Term.{Term}
 use Rattle.term_core.specs.Order.{term_cmp}
-use Rattle.term_dict.specs.Layout.{longest_in, raw_at}
-use Rattle.term_dict.specs.Ranks.{Holds}
+use Rattle.term_dict.specs.Layout.{longest_record, raw_at}
+use Rattle.term_dict.specs.Ranks.{HoldsTerms}
 use Rattle.term_dict.proofs.Halves.{IsBetween}
 use Rattle.term_dict.proofs.dict.Dict.rank_of.Given as goal
 
@@ -15,7 +15,7 @@ invariant-loop-step g l = record {
   risen : (g.B.Blocks.device l.initial.blocks).reads ≤ (g.B.Blocks.device l.blocks).reads;
   cost : (g.B.Blocks.device l.blocks).reads ≤ (g.B.Blocks.device l.initial.blocks).reads + l.step * (4 + l.self.bytes / 4080);
   few_reads : (image : List ℕ) → Tells (g.B.Blocks.device l.initial.blocks).image image
-      → (g.B.Blocks.device l.blocks).reads ≤ (g.B.Blocks.device l.initial.blocks).reads + l.step * (4 + longest_in l.self image / 4080);
+      → (g.B.Blocks.device l.blocks).reads ≤ (g.B.Blocks.device l.initial.blocks).reads + l.step * (4 + longest_record l.self image / 4080);
   few_steps : l.self.terms ≤ 12582909 → l.step ≤ 24;
   ordered : l.low ≤ l.high;
   lower : (image : List ℕ) → Tells (g.B.Blocks.device l.initial.blocks).image image
@@ -24,5 +24,5 @@ invariant-loop-step g l = record {
       → l.high < l.self.terms → (u : Term) × (raw_at l.self l.high image ≡ Ok u) × (term_cmp u l.t ≡ Greater);
   high : l.high ≤ l.self.terms;
   small : (l.high - l.low) * 2 ^ l.step ≤ l.self.terms;
-  between : (ts : List Term) (image : List ℕ) → Tells (g.B.Blocks.device l.initial.blocks).image image → Holds l.self ts image → IsBetween ts l.t l.low l.high;
+  between : (ts : List Term) (image : List ℕ) → Tells (g.B.Blocks.device l.initial.blocks).image image → HoldsTerms l.self ts image → IsBetween ts l.t l.low l.high;
 }

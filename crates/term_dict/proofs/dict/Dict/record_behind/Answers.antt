@@ -1,8 +1,8 @@
 use Rattle.std.proofs.Common.{◌≡◌, ◌+◌, ◌-◌, ◌++◌, ◌∙◌, ap, arith, length, subst}
 use Rattle.std.proofs.lemmas.Grind.{common_steps}
-use Rattle.term_dict.specs.Areas.{part_of}
+use Rattle.sage_outside.specs.Areas.{part_of}
 use Rattle.term_dict.specs.Layout.{record_area}
-use Rattle.term_dict.proofs.Answered.{if_ok}
+use Rattle.sage_outside.proofs.Answered.{if_ok}
 use Rattle.term_dict.proofs.Behind.{part_joined}
 use Rattle.term_dict.proofs.dict.Dict.record_behind.Goals as goal
 

@@ -1,5 +1,5 @@
 use Rattle.std.proofs.Common.{ap, Err}
-use Rattle.sparql_tree.specs.Bgp.{pattern_of}
+use Rattle.term_core.specs.Patterns.{pattern_of}
 use Rattle.triple_store.proofs.Opened.{handed_on, shown_kept, kept_on}
 use Rattle.triple_store.proofs.Matches.{asked_is}
 use Rattle.triple_store.proofs.store.Store.asked_of.Goals as goal

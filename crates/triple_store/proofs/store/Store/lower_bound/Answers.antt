@@ -1,8 +1,8 @@
 use Rattle.triple_store.proofs.Opened.{told_here, lists_here}
-use Rattle.triple_table.specs.Keys.{order_of, keys_by}
+use Rattle.store_image.specs.Keys.{index_numbered, keys_by}
 use Rattle.triple_store.proofs.store.Store.lower_bound.Goals as goal
 
 pub returns-clause-found : goal.returns-clause-found
 returns-clause-found g c = λ terms ids shown. rw (← c.key_in.ensures)
-    (c.lower_bound.ensures.found (keys_by (order_of c.args.order) ids) shown.image (told_here _ _ terms ids shown c.self.view_is)
+    (c.lower_bound.ensures.found (keys_by (index_numbered c.args.order) ids) shown.image (told_here _ _ terms ids shown c.self.view_is)
     (lists_here _ _ terms ids c.args.order _ shown c.self.view_is c.requires.order c.tree-list.ensures))

@@ -1,6 +1,6 @@
 use Rattle.std.proofs.Common.{subst}
-use Rattle.triple_table.specs.Table.{IsFound}
-use Rattle.triple_table.specs.Keys.{order_of, key_of, keys_by}
+use Rattle.store_image.specs.Table.{IsFound}
+use Rattle.store_image.specs.Keys.{index_numbered, key_in, keys_by}
 use Rattle.triple_store.proofs.Opened.{keys_rise}
 use Rattle.triple_store.proofs.Places.{place_there, nowhere}
 use Rattle.triple_store.proofs.store.Store.place_of.Goals as goal
@@ -9,10 +9,10 @@ pub returns-in-Some-clause-found : goal.returns-in-Some-clause-found
 returns-in-Some-clause-found g c = λ terms ids shown.
     let r = c.args.range.now in
     place_there r ids c.args.t.now c.in-Some.place c.place_at.result (keys_rise c.args.self.now terms ids r.order shown c.requires.range.order) c.requires.range.rises
-    (subst (IsFound (keys_by (order_of r.order) ids) (key_of (order_of r.order) c.args.t.now)) c.in-Some.is (c.in-Ok.ensures.found terms ids shown)) c.place_at.ensures.at c.place_at.ensures.none
+    (subst (IsFound (keys_by (index_numbered r.order) ids) (key_in (index_numbered r.order) c.args.t.now)) c.in-Some.is (c.in-Ok.ensures.found terms ids shown)) c.place_at.ensures.at c.place_at.ensures.none
 
 pub returns-in-None-clause-found : goal.returns-in-None-clause-found
 returns-in-None-clause-found g c = λ terms ids shown.
     let r = c.args.range.now in
     nowhere r ids c.args.t.now (keys_rise c.args.self.now terms ids r.order shown c.requires.range.order)
-    (subst (IsFound (keys_by (order_of r.order) ids) (key_of (order_of r.order) c.args.t.now)) c.in-None.is (c.in-Ok.ensures.found terms ids shown))
+    (subst (IsFound (keys_by (index_numbered r.order) ids) (key_in (index_numbered r.order) c.args.t.now)) c.in-None.is (c.in-Ok.ensures.found terms ids shown))

@@ -1,0 +1,180 @@
+//! Documents, their store files, and what a store over such a file answers.
+
+use nt_text::read_document;
+use sage_outside::{Blocks, MemBlocks, ReadFault, StoreFault};
+use std::alloc::{AllocError, Global};
+use std::process::Abort;
+use std::test::Fail;
+use store_image::{have_short_terms, image};
+use term_core::{IdTriple, Items, Pattern, Place, Term, Text, Triple};
+use triple_store::{OpenFault, Range, Store};
+
+/// Six blocks: the header; the numbers 0, 11, 22, 33 and 82; the records; and the entries
+/// 0 2 1, 0 2 3 by subject, 2 1 0, 2 3 0 by predicate, 1 0 2, 3 0 2 by object. By rank the terms
+/// are `http://e/a`, `http://e/b`, `http://e/p` and the string.
+pub(crate) const TWO: &str =
+    "<http://e/a> <http://e/p> <http://e/b> .\n<http://e/a> <http://e/p> \"x\" .\n";
+
+/// Four terms, `i:a`, `i:b`, `i:p` and `i:q`, and the triples 0 2 1, 0 3 1 and 1 2 0.
+pub(crate) const THREE: &str = "<i:b> <i:p> <i:a> .\n<i:a> <i:q> <i:b> .\n<i:a> <i:p> <i:b> .\n";
+
+/// The triples of a document.
+pub(crate) fn triples_of(alloc: Global, document: &str) -> Result<Items<Triple>, Fail> {
+    match read_document(alloc, document.as_bytes()) {
+        Ok(triples) => Ok(triples),
+        Err(_) => Err("no document")?,
+    }
+}
+
+/// The store file of a document.
+pub(crate) fn image_of(alloc: Global, document: &str) -> Result<Vec<u8>, Fail> {
+    match read_document(alloc, document.as_bytes()) {
+        Ok(triples) => {
+            if triples.len() <= 4194303 && have_short_terms(triples.as_slice()) {
+                Ok(image(alloc, triples.as_slice())?)
+            } else {
+                Err("too large")?
+            }
+        }
+        Err(_) => Err("no document")?,
+    }
+}
+
+/// Appends a triple whose IRIs begin with `base`, of the object with that number.
+fn push_numbered(out: &mut String, alloc: Global, base: &str, n: u32) -> Result<(), AllocError> {
+    let line = format!(in alloc; "<{base}s> <{base}p> <{base}{n}> .\n")?;
+    out.push_str(&line)
+}
+
+/// 342 triples, whose lists take 4,104 bytes each: entry 341 lies in two blocks. The objects have the
+/// ranks 0 to 341, the predicate has 342 and the subject 343.
+pub(crate) fn many(alloc: Global, base: &str) -> Result<String, Fail> {
+    let mut lines = String::new(alloc);
+    for n in 100..442 {
+        push_numbered(&mut lines, alloc, base, n)?;
+    }
+    Ok(lines)
+}
+
+/// The same from the last to the first, and each of them twice.
+pub(crate) fn many_turned(alloc: Global, base: &str) -> Result<String, Fail> {
+    let mut lines = String::new(alloc);
+    for k in 0..684 {
+        push_numbered(&mut lines, alloc, base, 441 - k % 342)?;
+    }
+    Ok(lines)
+}
+
+/// The bytes with another byte at a place, or as they are where they have no such place.
+pub(crate) fn with_byte(
+    alloc: Global,
+    bytes: &[u8],
+    place: usize,
+    byte: u8,
+) -> Result<Vec<u8>, AllocError> {
+    let mut changed = Vec::from_slice(alloc, bytes)?;
+    if place < changed.len() {
+        changed[place] = byte;
+    }
+    Ok(changed)
+}
+
+/// The string `x` by its name, and any other name as an IRI.
+pub(crate) fn term(alloc: Global, name: &str) -> Result<Term, Fail> {
+    let text = Text::from_bytes(alloc, name.as_bytes())?;
+    if name == "x" {
+        Ok(Term::plain(alloc, text)?)
+    } else {
+        Ok(Term::Iri(text))
+    }
+}
+
+/// A variable by `?`, a blank node by `_`, and a term by any other name.
+fn place(alloc: Global, name: &str) -> Result<Place, Fail> {
+    if name == "?" {
+        Ok(Place::Var(Text::from_bytes(alloc, b"v")?))
+    } else if name == "_" {
+        Ok(Place::Blank(Text::from_bytes(alloc, b"v")?))
+    } else {
+        Ok(Place::Term(term(alloc, name)?))
+    }
+}
+
+pub(crate) fn pattern(
+    alloc: Global,
+    subject: &str,
+    predicate: &str,
+    object: &str,
+) -> Result<Pattern, Fail> {
+    let subject = place(alloc, subject)?;
+    let predicate = place(alloc, predicate)?;
+    let object = place(alloc, object)?;
+    Ok(Pattern {
+        subject,
+        predicate,
+        object,
+    })
+}
+
+/// Three ranks as a triple.
+pub(crate) fn ids((s, p, o): (u32, u32, u32)) -> IdTriple {
+    IdTriple { s, p, o }
+}
+
+/// A triple as its three ranks.
+pub(crate) fn ranks(t: IdTriple) -> (u32, u32, u32) {
+    (t.s, t.p, t.o)
+}
+
+pub(crate) fn store_of<'a>(
+    bytes: &'a [u8],
+    fails: Vec<u64>,
+) -> Result<Store<MemBlocks<'a>>, OpenFault> {
+    match Store::open(MemBlocks::new(bytes, fails)) {
+        Ok(store) => Ok(store),
+        Err(unopened) => Err(unopened.fault),
+    }
+}
+
+pub(crate) fn term_in<B: Blocks>(
+    rt: &impl Abort,
+    alloc: Global,
+    store: &mut Store<B>,
+    id: u32,
+) -> Result<Term, StoreFault> {
+    assert!(rt; id < store.info().terms);
+    store.term(alloc, id)
+}
+
+pub(crate) fn entry_in<B: Blocks>(
+    rt: &impl Abort,
+    store: &mut Store<B>,
+    order: u8,
+    place: u32,
+) -> Result<IdTriple, ReadFault> {
+    assert!(rt; order <= 2 && place < store.info().triples);
+    store.entry(order, place)
+}
+
+pub(crate) fn triple_in<B: Blocks>(
+    rt: &impl Abort,
+    store: &mut Store<B>,
+    range: &Range,
+    place: u32,
+) -> Result<IdTriple, StoreFault> {
+    assert!(rt; range.order <= 2);
+    assert!(rt; range.first <= range.end && range.end <= store.info().triples);
+    assert!(rt; place < range.end - range.first);
+    store.triple(range, place)
+}
+
+pub(crate) fn place_in<B: Blocks>(
+    rt: &impl Abort,
+    store: &mut Store<B>,
+    range: &Range,
+    t: &IdTriple,
+) -> Result<Option<u32>, StoreFault> {
+    assert!(rt; range.order <= 2);
+    assert!(rt; range.first <= range.end && range.end <= store.info().triples);
+    store.place_of(range, t)
+}

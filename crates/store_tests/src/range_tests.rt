@@ -1,0 +1,359 @@
+//! Ranges, places and counts of stores in blocks of memory. Expected values are worked out by hand.
+
+use crate::making::{
+    THREE, TWO, entry_in, ids, image_of, pattern, place_in, ranks, store_of, term, term_in,
+    triple_in, with_byte,
+};
+use btree_scan::Prefix;
+use sage_outside::{Blocks, ReadFault, StoreFault};
+use std::alloc::Global;
+use std::process::Abort;
+use std::test::Fail;
+use term_core::{Pattern, Term};
+use triple_store::{Range, Store};
+
+/// A pattern, with `?` for a variable and `_` for a blank node, the order that it reads, and the
+/// triples that agree with its terms.
+type Row = (
+    &'static str,
+    &'static str,
+    &'static str,
+    u8,
+    &'static [(u32, u32, u32)],
+);
+
+const ROWS: [Row; 16] = [
+    ("?", "?", "?", 0, &[(0, 2, 1), (0, 3, 1), (1, 2, 0)]),
+    ("_", "_", "_", 0, &[(0, 2, 1), (0, 3, 1), (1, 2, 0)]),
+    ("i:a", "?", "?", 0, &[(0, 2, 1), (0, 3, 1)]),
+    ("i:a", "i:p", "?", 0, &[(0, 2, 1)]),
+    ("i:a", "i:p", "i:b", 0, &[(0, 2, 1)]),
+    ("?", "i:p", "?", 1, &[(1, 2, 0), (0, 2, 1)]),
+    ("?", "i:p", "i:b", 1, &[(0, 2, 1)]),
+    ("?", "?", "i:b", 2, &[(0, 2, 1), (0, 3, 1)]),
+    ("i:a", "?", "i:b", 2, &[(0, 2, 1), (0, 3, 1)]),
+    ("i:b", "i:q", "i:a", 0, &[]),
+    ("i:p", "?", "?", 0, &[]),
+    ("i:z", "?", "?", 0, &[]),
+    ("?", "i:z", "?", 1, &[]),
+    ("?", "?", "i:z", 2, &[]),
+    ("i:a", "?", "i:z", 2, &[]),
+    ("x", "?", "?", 0, &[]),
+];
+
+/// Whether the triples of a range are these.
+fn are_listed<B: Blocks>(
+    rt: &impl Abort,
+    store: &mut Store<B>,
+    range: &Range,
+    wanted: &[(u32, u32, u32)],
+) -> bool {
+    let mut same = range.first <= range.end && (range.end - range.first) as usize == wanted.len();
+    for (place, &t) in wanted.iter().enumerate() {
+        let place = place.min(1000) as u32;
+        same = same && triple_in(rt, store, range, place) == Ok(ids(t));
+    }
+    same
+}
+
+/// The range of the pattern's triples and how many they are.
+fn range_and_count<B: Blocks>(
+    alloc: Global,
+    store: &mut Store<B>,
+    asked: &Pattern,
+) -> Result<(Range, u32), StoreFault> {
+    let range = store.range_of(alloc, asked)?;
+    let count = store.count(alloc, asked)?;
+    Ok((range, count))
+}
+
+fn agrees(rt: &impl Abort, alloc: Global, bytes: &[u8], row: &Row) -> Result<bool, Fail> {
+    let (subject, predicate, object, order, wanted) = row;
+    let asked = pattern(alloc, subject, predicate, object)?;
+    let mut store = store_of(bytes, Vec::new(alloc))?;
+    let (range, count) = range_and_count(alloc, &mut store, &asked)?;
+    let listed = are_listed(rt, &mut store, &range, wanted);
+    Ok(listed && range.order == *order && count as usize == wanted.len())
+}
+
+#[test]
+fn patterns_have_ranges_and_counts(rt: HostRuntime) -> Result<(), Fail> {
+    let bytes = image_of(rt.alloc(), THREE)?;
+    for row in ROWS.as_slice() {
+        assert!(rt; agrees(&rt, rt.alloc(), &bytes, row)?);
+    }
+    Ok(())
+}
+
+/// A triple of ranks, and its place in the range of those with the predicate `i:p`.
+const PLACES: [((u32, u32, u32), Option<u32>); 5] = [
+    ((1, 2, 0), Some(0)),
+    ((0, 2, 1), Some(1)),
+    ((0, 3, 1), None),
+    ((0, 2, 0), None),
+    ((4, 4, 4), None),
+];
+
+#[test]
+fn triples_have_places(rt: HostRuntime) -> Result<(), Fail> {
+    let bytes = image_of(rt.alloc(), THREE)?;
+    let asked = pattern(rt.alloc(), "?", "i:p", "?")?;
+    for &(t, wanted) in PLACES.as_slice() {
+        assert!(rt; place_of(&rt, rt.alloc(), &bytes, &asked, t)? == Ok(wanted));
+    }
+    Ok(())
+}
+
+/// The place of a triple in the range of a pattern.
+fn place_of(
+    rt: &impl Abort,
+    alloc: Global,
+    bytes: &[u8],
+    asked: &Pattern,
+    t: (u32, u32, u32),
+) -> Result<Result<Option<u32>, StoreFault>, Fail> {
+    let mut store = store_of(bytes, Vec::new(alloc))?;
+    let range = store.range_of(alloc, asked)?;
+    Ok(place_in(rt, &mut store, &range, &ids(t)))
+}
+
+/// The triples of ranks of the three triples.
+const TRIPLES: [(u32, u32, u32); 3] = [(0, 2, 1), (0, 3, 1), (1, 2, 0)];
+
+/// How many triples of ranks below 5 the store has.
+fn count_all<B: Blocks>(store: &mut Store<B>) -> u32 {
+    let mut count = 0u32;
+    for s in 0u32..5 {
+        for p in 0u32..5 {
+            for o in 0u32..5 {
+                if store.has(&ids((s, p, o))) == Ok(true) {
+                    count = count.saturating_add(1);
+                }
+            }
+        }
+    }
+    count
+}
+
+#[test]
+fn the_data_have_their_triples_alone(rt: HostRuntime) -> Result<(), Fail> {
+    let bytes = image_of(rt.alloc(), THREE)?;
+    let mut store = store_of(&bytes, Vec::new(rt.alloc()))?;
+    assert_eq!(rt; count_all(&mut store), 3);
+    for &t in TRIPLES.as_slice() {
+        assert!(rt; store.has(&ids(t)) == Ok(true));
+    }
+    Ok(())
+}
+
+/// An order, a triple, and the place of its key.
+const BOUNDS: [(u8, (u32, u32, u32), u32); 4] = [
+    (0, (0, 3, 1), 1),
+    (1, (0, 3, 1), 2),
+    (2, (0, 3, 1), 2),
+    (2, (9, 9, 9), 3),
+];
+
+/// An order, and the places of the keys that begin with 2.
+const RANGES: [(u8, (u32, u32)); 3] = [(0, (3, 3)), (1, (0, 2)), (2, (3, 3))];
+
+#[test]
+fn keys_have_places(rt: HostRuntime) -> Result<(), Fail> {
+    let bytes = image_of(rt.alloc(), THREE)?;
+    let mut store = store_of(&bytes, Vec::new(rt.alloc()))?;
+    for &(order, t, wanted) in BOUNDS.as_slice() {
+        assert!(rt; order <= 2 && store.lower_bound(order, &ids(t)) == Ok(wanted));
+    }
+    Ok(())
+}
+
+#[test]
+fn fronts_have_places(rt: HostRuntime) -> Result<(), Fail> {
+    let bytes = image_of(rt.alloc(), THREE)?;
+    let mut store = store_of(&bytes, Vec::new(rt.alloc()))?;
+    let prefix = Prefix {
+        len: 1,
+        a: 2,
+        b: 0,
+        c: 0,
+    };
+    for &(order, wanted) in RANGES.as_slice() {
+        assert!(rt; order <= 2 && store.range(order, &prefix) == Ok(wanted));
+    }
+    Ok(())
+}
+
+/// What the two triples' store answers where the last id of its second entry is no term's: the first and
+/// the second triple of the range of all, whether it has the second, and its place.
+fn answers_of_broken(
+    rt: &impl Abort,
+    alloc: Global,
+) -> Result<
+    (
+        Result<(u32, u32, u32), StoreFault>,
+        Result<(u32, u32, u32), StoreFault>,
+        Result<bool, ReadFault>,
+        Result<Option<u32>, StoreFault>,
+    ),
+    Fail,
+> {
+    let asked = pattern(alloc, "?", "?", "?")?;
+    let bytes = broken(alloc)?;
+    let mut store = store_of(&bytes, Vec::new(alloc))?;
+    let range = store.range_of(alloc, &asked)?;
+    Ok((
+        triple_in(rt, &mut store, &range, 0).map(ranks),
+        triple_in(rt, &mut store, &range, 1).map(ranks),
+        store.has(&ids((0, 2, 3))),
+        place_in(rt, &mut store, &range, &ids((0, 2, 3))),
+    ))
+}
+
+fn broken(alloc: Global) -> Result<Vec<u8>, Fail> {
+    let bytes = image_of(alloc, TWO)?;
+    Ok(with_byte(alloc, &bytes, 3 * 4096 + 12 + 11, 9)?)
+}
+
+#[test]
+fn a_broken_entry_is_damaged_in_a_range_and_not_in_a_search(rt: HostRuntime) -> Result<(), Fail> {
+    let damaged = StoreFault::Damaged { block: 3 };
+    assert!(rt;
+        answers_of_broken(&rt, rt.alloc())? == (Ok((0, 2, 1)), Err(damaged), Ok(false), Ok(None))
+    );
+    Ok(())
+}
+
+fn as_store(fault: ReadFault) -> StoreFault {
+    match fault {
+        ReadFault::Blocks => StoreFault::Blocks,
+        ReadFault::Damaged { block } => StoreFault::Damaged { block },
+    }
+}
+
+/// What is asked of a store: the places of a predicate, and a term.
+#[derive(Drop)]
+struct Asked {
+    pattern: Pattern,
+    term: Term,
+}
+
+fn questions(alloc: Global) -> Result<Asked, Fail> {
+    let pattern = pattern(alloc, "?", "http://e/p", "?")?;
+    let term = term(alloc, "http://e/p")?;
+    Ok(Asked { pattern, term })
+}
+
+/// Whether the term of rank 2 is the one that is asked for.
+fn term_answer<B: Blocks>(
+    rt: &impl Abort,
+    alloc: Global,
+    store: &mut Store<B>,
+    asked: &Asked,
+) -> Result<u32, StoreFault> {
+    let found = term_in(rt, alloc, store, 2)?;
+    Ok(u32::from(found == asked.term))
+}
+
+/// The object of the second triple of the range, or the place of a triple.
+fn range_answer<B: Blocks>(
+    rt: &impl Abort,
+    alloc: Global,
+    store: &mut Store<B>,
+    asked: &Asked,
+    call: u32,
+) -> Result<u32, StoreFault> {
+    let range = store.range_of(alloc, &asked.pattern)?;
+    if call == 6 {
+        triple_in(rt, store, &range, 1).map(|t| t.o)
+    } else {
+        place_in(rt, store, &range, &ids((0, 2, 3))).map(|place| place.unwrap_or(9))
+    }
+}
+
+/// A call of a store of the two triples, by a number, and a number of its answer.
+fn answer<B: Blocks>(
+    rt: &impl Abort,
+    alloc: Global,
+    store: &mut Store<B>,
+    asked: &Asked,
+    call: u32,
+) -> Result<u32, StoreFault> {
+    let t = ids((0, 2, 3));
+    match call {
+        0 => term_answer(rt, alloc, store, asked),
+        1 => store.id_of(alloc, &asked.term).map(|id| id.unwrap_or(9)),
+        2 => store.count(alloc, &asked.pattern),
+        3 => store.has(&t).map(u32::from).map_err(as_store),
+        4 => store.lower_bound(1, &t).map_err(as_store),
+        5 => entry_in(rt, store, 2, 1).map(|t| t.o).map_err(as_store),
+        _ => range_answer(rt, alloc, store, asked, call),
+    }
+}
+
+/// The calls, and the numbers of their answers.
+const CALLS: [(u32, u32); 8] = [
+    (0, 1),
+    (1, 2),
+    (2, 2),
+    (3, 1),
+    (4, 1),
+    (5, 3),
+    (6, 3),
+    (7, 1),
+];
+
+/// How many blocks a store of the bytes has read when it was opened and has answered the call, if it
+/// answers that number.
+fn reads_of(
+    rt: &impl Abort,
+    alloc: Global,
+    bytes: &[u8],
+    asked: &Asked,
+    (call, wanted): (u32, u32),
+) -> Result<u64, Fail> {
+    let mut store = store_of(bytes, Vec::new(alloc))?;
+    let found = answer(rt, alloc, &mut store, asked, call);
+    assert!(rt; found == Ok(wanted));
+    Ok(store.close().reads())
+}
+
+/// Whether a call answers `Blocks` where that read fails, and the next call its number.
+fn tells_of(
+    rt: &impl Abort,
+    alloc: Global,
+    bytes: &[u8],
+    asked: &Asked,
+    (call, wanted): (u32, u32),
+    failing: u64,
+) -> Result<bool, Fail> {
+    let mut store = store_of(bytes, vec![in alloc; failing]?)?;
+    let first = answer(rt, alloc, &mut store, asked, call);
+    let second = answer(rt, alloc, &mut store, asked, call);
+    Ok(first == Err(StoreFault::Blocks) && second == Ok(wanted))
+}
+
+/// Whether each read of the call that fails is told.
+fn tells_all(
+    rt: &impl Abort,
+    alloc: Global,
+    bytes: &[u8],
+    asked: &Asked,
+    call: (u32, u32),
+) -> Result<bool, Fail> {
+    let reads = reads_of(rt, alloc, bytes, asked, call)?;
+    let mut told = reads > 1;
+    for failing in 1..reads {
+        told = tells_of(rt, alloc, bytes, asked, call, failing)? && told;
+    }
+    Ok(told)
+}
+
+#[test]
+fn each_read_that_fails_is_told(rt: HostRuntime) -> Result<(), Fail> {
+    let bytes = image_of(rt.alloc(), TWO)?;
+    let asked = questions(rt.alloc())?;
+    for &call in CALLS.as_slice() {
+        assert!(rt; tells_all(&rt, rt.alloc(), &bytes, &asked, call)?);
+    }
+    Ok(())
+}
