@@ -3,14 +3,14 @@ use Rattle.std.proofs.Common.{◌≡◌, ℕ, ◌<◌, ◌≤◌, Bool, true, fa
 use Rattle.term_core.specs.declared.term.Term.{Term}
 use Rattle.sparql_tree.specs.Exprs.{Expr}
 use Rattle.sparql_tree.specs.declared.words.CompareOp.{CompareOp}
-use Rattle.sparql_symbol.specs.declared.symbol.Shape.{Shape}
-use Rattle.sparql_symbol.specs.declared.symbol.Shape.TheVariants as s
-use Rattle.sparql_symbol.specs.declared.symbol.Symbol.{Symbol}
-use Rattle.sparql_grammar.specs.Symbols.{Is}
-use Rattle.sparql_grammar.specs.Parser.{head}
-use Rattle.sparql_grammar.specs.Terms.{IsNumber, IsTerm}
-use Rattle.sparql_grammar.specs.Terms as terms
-use Rattle.sparql_grammar.specs.Expressions.{IsExpr, or, OrTail, or_end, or_more, IsAnd, and, AndTail, and_end, and_more, IsRel, rel_one, rel_compare, rel_in, rel_not_in, ListTail, list_end, list_more, IsSum, sum, SumTail, sum_end, sum_plus, sum_minus, IsProduct, product, ProductTail, product_end, product_times, product_over, IsUnary, bare, not, plus, minus, IsAtom, constant, variable, parens, called, aggregated, IsCall, call, bound, IsAggregate, count_all, aggregate, op_of, begins_number}
+use Rattle.sparql_tree.specs.declared.symbol.Shape.{Shape}
+use Rattle.sparql_tree.specs.declared.symbol.Shape.TheVariants as s
+use Rattle.sparql_tree.specs.declared.symbol.Symbol.{Symbol}
+use Rattle.sparql_tree.specs.Heads.{Is}
+use Rattle.sparql_tree.specs.Heads.{head}
+use Rattle.sparql_tree.specs.Terms.{IsNumber, IsTerm}
+use Rattle.sparql_tree.specs.Terms as terms
+use Rattle.sparql_tree.specs.Expressions.{IsExpr, or, OrTail, or_end, or_more, IsAnd, and, AndTail, and_end, and_more, IsRel, rel_one, rel_compare, rel_in, rel_not_in, ListTail, list_end, list_more, IsSum, sum, SumTail, sum_end, sum_plus, sum_minus, IsProduct, product, ProductTail, product_end, product_times, product_over, IsUnary, bare, not, plus, minus, IsAtom, constant, variable, parens, called, aggregated, IsCall, call, bound, IsAggregate, count_all, aggregate, op_of, begins_number}
 use Rattle.sparql_grammar.proofs.Steps.{is-head, holds-head}
 use Rattle.sparql_grammar.proofs.TermLaws.{ends_string}
 

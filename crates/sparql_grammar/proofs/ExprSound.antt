@@ -6,16 +6,17 @@ use Rattle.sparql_tree.specs.declared.words.AggregateKind.TheVariants as kinds
 use Rattle.sparql_tree.specs.declared.words.CompareOp.{CompareOp}
 use Rattle.sparql_tree.specs.declared.words.Function.{Function}
 use Rattle.sparql_tree.specs.declared.words.Function.TheVariants as functions
-use Rattle.sparql_symbol.specs.declared.symbol.Shape.{Shape}
-use Rattle.sparql_symbol.specs.declared.symbol.Shape.TheVariants as s
-use Rattle.sparql_symbol.specs.declared.symbol.Symbol.{Symbol}
-use Rattle.sparql_grammar.specs.Symbols.{Is, Holds}
-use Rattle.sparql_grammar.specs.Parser.{Parser, head, next, ◌>>=◌, ◌<<◌, peek, open_paren, close_paren, name}
-use Rattle.sparql_grammar.specs.Terms.{IsNumber, IsTerm}
-use Rattle.sparql_grammar.specs.Terms as terms
+use Rattle.sparql_tree.specs.declared.symbol.Shape.{Shape}
+use Rattle.sparql_tree.specs.declared.symbol.Shape.TheVariants as s
+use Rattle.sparql_tree.specs.declared.symbol.Symbol.{Symbol}
+use Rattle.sparql_tree.specs.Heads.{Is, Holds}
+use Rattle.sparql_grammar.specs.Parser.{Parser, next, ◌>>=◌, ◌<<◌, peek, open_paren, close_paren, name}
+use Rattle.sparql_tree.specs.Heads.{head}
+use Rattle.sparql_tree.specs.Terms.{IsNumber, IsTerm}
+use Rattle.sparql_tree.specs.Terms as terms
 use Rattle.sparql_grammar.specs.TermReading.{term, number}
 use Rattle.sparql_grammar.specs.ExprReading as l
-use Rattle.sparql_grammar.specs.Expressions.{IsDistinct, distinct, not_distinct, IsExpr, or, OrTail, or_end, or_more, IsAnd, and, AndTail, and_end, and_more, IsRel, rel_one, rel_compare, rel_in, rel_not_in, IsList, list_none, list_some, ListTail, list_end, list_more, IsSum, sum, SumTail, sum_end, sum_plus, sum_minus, IsProduct, product, ProductTail, product_end, product_times, product_over, IsUnary, bare, not, plus, minus, IsAtom, constant, variable, parens, called, aggregated, IsCall, call, bound, IsAggregate, count_all, aggregate, or_node, and_node, sum_node, product_node, begins_number, takes}
+use Rattle.sparql_tree.specs.Expressions.{IsDistinct, distinct, not_distinct, IsExpr, or, OrTail, or_end, or_more, IsAnd, and, AndTail, and_end, and_more, IsRel, rel_one, rel_compare, rel_in, rel_not_in, IsList, list_none, list_some, ListTail, list_end, list_more, IsSum, sum, SumTail, sum_end, sum_plus, sum_minus, IsProduct, product, ProductTail, product_end, product_times, product_over, IsUnary, bare, not, plus, minus, IsAtom, constant, variable, parens, called, aggregated, IsCall, call, bound, IsAggregate, count_all, aggregate, or_node, and_node, sum_node, product_node, begins_number, takes}
 use Rattle.sparql_grammar.proofs.Steps.{is-next, holds-next, Good, then_good, weaken, Adds, Extends, Turns, all_more-sound, open-sound, close-sound, name-sound}
 use Rattle.sparql_grammar.proofs.TermLaws.{number-sound, term-sound}
 

@@ -5,18 +5,19 @@ use Rattle.sparql_tree.specs.Exprs.{Expr}
 use Rattle.sparql_tree.specs.Groups.{Group, GroupOf, Element, Union, Optional, Minus, Filter, Bind, elements, groups}
 use Rattle.sparql_tree.specs.declared.words.AggregateKind.{AggregateKind}
 use Rattle.sparql_tree.specs.declared.words.Function.{Function}
-use Rattle.sparql_symbol.specs.declared.symbol.Shape.{Shape}
-use Rattle.sparql_symbol.specs.declared.symbol.Shape.TheVariants as s
-use Rattle.sparql_symbol.specs.declared.symbol.Symbol.{Symbol}
-use Rattle.sparql_grammar.specs.Symbols.{Is, Holds}
-use Rattle.sparql_grammar.specs.Parser.{Parser, head, next, ◌>>=◌, ◌>>◌, ◌<$>◌, pure, take, more, all_more, repeat, all_steps, open_paren, close_paren, open_brace, close_brace, as_word, name}
-use Rattle.sparql_grammar.specs.Expressions.{IsExpr, IsCall, call, IsAggregate, count_all, aggregate}
-use Rattle.sparql_grammar.specs.Expressions as e
+use Rattle.sparql_tree.specs.declared.symbol.Shape.{Shape}
+use Rattle.sparql_tree.specs.declared.symbol.Shape.TheVariants as s
+use Rattle.sparql_tree.specs.declared.symbol.Symbol.{Symbol}
+use Rattle.sparql_tree.specs.Heads.{Is, Holds}
+use Rattle.sparql_grammar.specs.Parser.{Parser, next, ◌>>=◌, ◌>>◌, ◌<$>◌, pure, take, more, all_more, repeat, all_steps, open_paren, close_paren, open_brace, close_brace, as_word, name}
+use Rattle.sparql_tree.specs.Heads.{head}
+use Rattle.sparql_tree.specs.Expressions.{IsExpr, IsCall, call, IsAggregate, count_all, aggregate}
+use Rattle.sparql_tree.specs.Expressions as e
 use Rattle.sparql_grammar.specs.ExprReading as x
-use Rattle.sparql_grammar.specs.Triples.{IsTriples, no_triples, triples as triples_there}
+use Rattle.sparql_tree.specs.Triples.{IsTriples, no_triples, triples as triples_there}
 use Rattle.sparql_grammar.specs.TripleReading.{triples, begins_node}
 use Rattle.sparql_grammar.specs.ValueReading as v
-use Rattle.sparql_grammar.specs.Groups.{IsConstraint, constraint, constraint_call, constraint_aggregate, IsPoint, no_point, point, IsGroup, group, GroupTail, group_end, group_more, IsElement, union, optional, without, filter, bind, values, UnionTail, union_end, union_more}
+use Rattle.sparql_tree.specs.GroupPatterns.{IsConstraint, constraint, constraint_call, constraint_aggregate, IsPoint, no_point, point, IsGroup, group, GroupTail, group_end, group_more, IsElement, union, optional, without, filter, bind, values, UnionTail, union_end, union_more}
 use Rattle.sparql_grammar.specs.GroupReading as r
 use Rattle.sparql_grammar.proofs.Steps.{is-next, is-head, is-shorter, holds-shorter, Good, then_good, weaken, Adds, none_more, Extends, Turns, all_more-sound, Grows, GrowsBy, all_steps-sound, open-sound, close-sound, name-sound, open_brace-sound, close_brace-sound, as-sound, Finds, same_found, more-stop, more-step, repeat-stop, repeat-step, open-finds, close-finds, name-finds, open_brace-finds, close_brace-finds, as-finds, then-finds, map-finds, take-finds, at-finds, closed-finds}
 use Rattle.sparql_grammar.proofs.ExprSound.{closed-sound, call-sound, aggregate-sound, expr-sound}

@@ -12,6 +12,4 @@ pub mod GroupLaws
 pub mod Counts
 pub mod QueryLaws
 pub mod QueryComplete
-pub mod Names
 pub mod Spelled
-pub mod Texts

@@ -6,16 +6,17 @@ use Rattle.term_core.specs.Numbers.{are_digits}
 use Rattle.term_core.specs.Numbers as numbers
 use Rattle.sparql_tree.specs.Exprs.{Expr, Var}
 use Rattle.sparql_tree.specs.Groups.{Group, SelectItem, GroupKey, OrderKey, Query}
-use Rattle.sparql_symbol.specs.declared.symbol.Shape.{Shape}
-use Rattle.sparql_symbol.specs.declared.symbol.Shape.TheVariants as s
-use Rattle.sparql_symbol.specs.declared.symbol.Symbol.{Symbol}
-use Rattle.sparql_grammar.specs.Symbols.{Is, Holds}
-use Rattle.sparql_grammar.specs.Parser.{head, ◌>>=◌, ◌>>◌, ◌<$>◌, pure, peek, spelled, more, all_more}
-use Rattle.sparql_grammar.specs.Expressions.{call, bound, count_all, aggregate}
+use Rattle.sparql_tree.specs.declared.symbol.Shape.{Shape}
+use Rattle.sparql_tree.specs.declared.symbol.Shape.TheVariants as s
+use Rattle.sparql_tree.specs.declared.symbol.Symbol.{Symbol}
+use Rattle.sparql_tree.specs.Heads.{Is, Holds}
+use Rattle.sparql_grammar.specs.Parser.{◌>>=◌, ◌>>◌, ◌<$>◌, pure, peek, spelled, more, all_more}
+use Rattle.sparql_tree.specs.Heads.{head}
+use Rattle.sparql_tree.specs.Expressions.{call, bound, count_all, aggregate}
 use Rattle.sparql_grammar.specs.ExprReading as x
-use Rattle.sparql_grammar.specs.Groups.{IsConstraint, constraint, constraint_call, constraint_aggregate, IsGroup}
+use Rattle.sparql_tree.specs.GroupPatterns.{IsConstraint, constraint, constraint_call, constraint_aggregate, IsGroup}
 use Rattle.sparql_grammar.specs.GroupReading as g
-use Rattle.sparql_grammar.specs.Queries.{item, key, ordered, IsDistinctness, distinct_rows, reduced_rows, all_rows, IsItem, item_variable, item_value, ItemTail, item_end, item_more, IsSelection, select_star, select_items, IsWhere, where_word, no_where, IsKey, key_variable, key_call, key_value, key_named, KeyTail, key_end, key_more, IsGrouping, no_grouping, grouping, HavingTail, having_end, having_more, IsHaving, no_having, having, IsOrderKey, ascending, descending, order_constraint, order_variable, OrderTail, order_end, order_more, IsOrdering, no_ordering, ordering, IsCount, count, IsLimit, limit, IsOffset, offset, IsSlice, no_slice, limit_only, limit_offset, offset_only, offset_limit, IsSelect, select}
+use Rattle.sparql_tree.specs.Queries.{item, key, ordered, IsDistinctness, distinct_rows, reduced_rows, all_rows, IsItem, item_variable, item_value, ItemTail, item_end, item_more, IsSelection, select_star, select_items, IsWhere, where_word, no_where, IsKey, key_variable, key_call, key_value, key_named, KeyTail, key_end, key_more, IsGrouping, no_grouping, grouping, HavingTail, having_end, having_more, IsHaving, no_having, having, IsOrderKey, ascending, descending, order_constraint, order_variable, OrderTail, order_end, order_more, IsOrdering, no_ordering, ordering, IsCount, count, IsLimit, limit, IsOffset, offset, IsSlice, no_slice, limit_only, limit_offset, offset_only, offset_limit, IsSelect, select}
 use Rattle.sparql_grammar.specs.QueryReading as r
 use Rattle.sparql_grammar.proofs.Steps.{is-head, holds-head, is-shorter, holds-shorter, holds-value, holds-behind, none_more, Finds, same_found, more-stop, more-step, open-finds, close-finds, name-finds, as-finds, then-finds, map-finds, take-finds, at-finds, spelled-finds}
 use Rattle.sparql_grammar.proofs.ExprShorter.{expr-shorter, call-shorter}
@@ -154,7 +155,7 @@ distinctness-finds (distinct_rows i) e = at-finds r.distinct_by (is-head i) (tak
 distinctness-finds (reduced_rows i) e = at-finds r.distinct_by (is-head i) (take-finds {q = λ w. Some (false, w)} i (record { found = refl }))
 distinctness-finds (all_rows {ts = ts}) e = record { found = distinctness-none ts (head ts) e }
 
-does_fit : (digits : List ℕ) → are_digits digits ≡ true → numbers.value digits < 2 ^ 64 → r.fits digits ≡ true
+does_fit : (digits : List ℕ) → are_digits digits ≡ true → numbers.digits_value digits < 2 ^ 64 → r.fits digits ≡ true
 does_fit digits e h = grind (arith, nat_tests)
 
 spelled-word : {word : List ℕ} {shape : Shape} {ts us : List Symbol} → Holds shape word ts us → Finds spelled ts word us
@@ -163,8 +164,8 @@ spelled-word h = record { found = λ i. Some (holds-value h i, holds-behind h i)
 count-finds : {ts rest : List Symbol} {n : ℕ} → IsCount ts n rest → Finds r.count ts n rest
 unfolding r.count
 count-finds {rest = rest} (count {digits = digits} h e l) =
-    at-finds r.count_by (holds-head h) (then-finds (λ ds. r.counted_if (r.fits ds) (numbers.value ds)) (spelled-word h)
-    (record { found = ap (λ f. r.counted_if f (numbers.value digits) rest) (does_fit digits e l) }))
+    at-finds r.count_by (holds-head h) (then-finds (λ ds. r.counted_if (r.fits ds) (numbers.digits_value ds)) (spelled-word h)
+    (record { found = ap (λ f. r.counted_if f (numbers.digits_value digits) rest) (does_fit digits e l) }))
 
 limit-finds : {ts rest : List Symbol} {n : ℕ} → IsLimit ts n rest → Finds r.limit ts (Some n) rest
 unfolding r.limit

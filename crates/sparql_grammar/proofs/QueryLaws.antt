@@ -5,16 +5,17 @@ use Rattle.term_core.specs.Numbers.{are_digits}
 use Rattle.term_core.specs.Numbers as numbers
 use Rattle.sparql_tree.specs.Exprs.{Expr}
 use Rattle.sparql_tree.specs.Groups.{SelectItem, GroupKey, OrderKey, Query}
-use Rattle.sparql_symbol.specs.declared.symbol.Shape.{Shape}
-use Rattle.sparql_symbol.specs.declared.symbol.Shape.TheVariants as s
-use Rattle.sparql_symbol.specs.declared.symbol.Symbol.{Symbol}
-use Rattle.sparql_grammar.specs.Symbols.{Is, Holds}
-use Rattle.sparql_grammar.specs.Parser.{head, next, value, ◌>>=◌, ◌<$>◌, pure, open_paren, close_paren, as_word, name}
-use Rattle.sparql_grammar.specs.Expressions.{IsExpr, IsCall}
+use Rattle.sparql_tree.specs.declared.symbol.Shape.{Shape}
+use Rattle.sparql_tree.specs.declared.symbol.Shape.TheVariants as s
+use Rattle.sparql_tree.specs.declared.symbol.Symbol.{Symbol}
+use Rattle.sparql_tree.specs.Heads.{Is, Holds}
+use Rattle.sparql_grammar.specs.Parser.{next, value, ◌>>=◌, ◌<$>◌, pure, open_paren, close_paren, as_word, name}
+use Rattle.sparql_tree.specs.Heads.{head}
+use Rattle.sparql_tree.specs.Expressions.{IsExpr, IsCall}
 use Rattle.sparql_grammar.specs.ExprReading as x
-use Rattle.sparql_grammar.specs.Groups.{IsConstraint, IsGroup}
+use Rattle.sparql_tree.specs.GroupPatterns.{IsConstraint, IsGroup}
 use Rattle.sparql_grammar.specs.GroupReading as g
-use Rattle.sparql_grammar.specs.Queries.{ordered, IsDistinctness, distinct_rows, reduced_rows, all_rows, IsItem, item_variable, item_value, ItemTail, item_end, item_more, IsSelection, select_star, select_items, IsWhere, where_word, no_where, IsKey, key_variable, key_call, key_value, key_named, KeyTail, key_end, key_more, IsGrouping, no_grouping, grouping, HavingTail, having_end, having_more, IsHaving, no_having, having, IsOrderKey, ascending, descending, order_constraint, order_variable, OrderTail, order_end, order_more, IsOrdering, no_ordering, ordering, IsCount, count, IsLimit, limit, IsOffset, offset, IsSlice, no_slice, limit_only, limit_offset, offset_only, offset_limit, IsSelect, select}
+use Rattle.sparql_tree.specs.Queries.{ordered, IsDistinctness, distinct_rows, reduced_rows, all_rows, IsItem, item_variable, item_value, ItemTail, item_end, item_more, IsSelection, select_star, select_items, IsWhere, where_word, no_where, IsKey, key_variable, key_call, key_value, key_named, KeyTail, key_end, key_more, IsGrouping, no_grouping, grouping, HavingTail, having_end, having_more, IsHaving, no_having, having, IsOrderKey, ascending, descending, order_constraint, order_variable, OrderTail, order_end, order_more, IsOrdering, no_ordering, ordering, IsCount, count, IsLimit, limit, IsOffset, offset, IsSlice, no_slice, limit_only, limit_offset, offset_only, offset_limit, IsSelect, select}
 use Rattle.sparql_grammar.specs.QueryReading as r
 use Rattle.sparql_grammar.proofs.Steps.{is-next, holds-next, Good, then_good, weaken, Adds, Extends, Turns, all_more-sound, open-sound, close-sound, name-sound, as-sound}
 use Rattle.sparql_grammar.proofs.ExprSound.{expr-sound, call-sound}
@@ -55,10 +56,10 @@ distinctness-sound ts = by (head ts) refl
     by (Some s.Reduced) h = reduced_rows (is-next s.Reduced ts h)
     by o h = all_rows
 
-both_fit : (digits : List ℕ) → r.fits digits ≡ true → (are_digits digits ≡ true) × (numbers.value digits < 2 ^ 64)
+both_fit : (digits : List ℕ) → r.fits digits ≡ true → (are_digits digits ≡ true) × (numbers.digits_value digits < 2 ^ 64)
 both_fit digits h = grind (arith, nat_tests)
 
-counted-sound : (ts rest : List Symbol) (digits : List ℕ) (fit : Bool) → r.fits digits ≡ fit → Holds s.Integer digits ts rest → Good (IsCount ts) (r.counted_if fit (numbers.value digits) rest)
+counted-sound : (ts rest : List Symbol) (digits : List ℕ) (fit : Bool) → r.fits digits ≡ fit → Holds s.Integer digits ts rest → Good (IsCount ts) (r.counted_if fit (numbers.digits_value digits) rest)
 counted-sound ts rest digits true e h = let both = both_fit digits e in count h both.0 both.1
 counted-sound ts rest digits false e h = tt
 

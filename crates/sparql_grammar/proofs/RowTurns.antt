@@ -3,9 +3,9 @@ use Rattle.std.proofs.Common.{◌≡◌, ℕ, suc, ◌+◌, ◌<◌, ◌≤◌, 
 use Rattle.std.proofs.Math.Seq.{drop-cons}
 use Rattle.std.proofs.Math.ListN.{drop_of_length-le}
 use Rattle.term_core.specs.Mappings.{Name, Row}
-use Rattle.sparql_symbol.specs.declared.symbol.Symbol.{Symbol}
+use Rattle.sparql_tree.specs.declared.symbol.Symbol.{Symbol}
 use Rattle.sparql_grammar.specs.Parser.{and_then}
-use Rattle.sparql_grammar.specs.Values.{with_cell}
+use Rattle.sparql_tree.specs.Values.{with_cell}
 use Rattle.sparql_grammar.specs.ValueReading.{cell, row_with}
 
 pub row_turn : {outcome : Option (Row × List Symbol)} (names : List Name) (at : ℕ) (name : Name) (row : Row) (ts : List Symbol) → at < length names → name ≡ get_or names at name

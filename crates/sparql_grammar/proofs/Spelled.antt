@@ -2,10 +2,10 @@
 use Rattle.std.proofs.Common.{◌≡◌, ℕ, suc, ◌+◌, Bool, List, [], ◌∷◌, length, Some, None, refl, sym, subst, ap, ◌∙◌, arith}
 use Rattle.sparql_tree.specs.Exprs.{Expr}
 use Rattle.sparql_tree.specs.Groups.{Query}
-use Rattle.sparql_symbol.specs.declared.symbol.Symbol.{Symbol}
-use Rattle.sparql_grammar.specs.Parser.{head}
-use Rattle.sparql_grammar.specs.Expressions.{IsExpr}
-use Rattle.sparql_grammar.specs.Queries.{IsSelect, IsQuery, without_repeats}
+use Rattle.sparql_tree.specs.declared.symbol.Symbol.{Symbol}
+use Rattle.sparql_tree.specs.Heads.{head}
+use Rattle.sparql_tree.specs.Expressions.{IsExpr}
+use Rattle.sparql_tree.specs.Queries.{IsSelect, IsQuery, without_repeats}
 use Rattle.sparql_grammar.specs.QueryReading.{query}
 use Rattle.sparql_grammar.proofs.Steps.{Good}
 use Rattle.sparql_grammar.proofs.ExprComplete.{expr-finds}

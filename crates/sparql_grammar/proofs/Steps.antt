@@ -1,12 +1,13 @@
 -- Steps of a reader, and what it read of the grammar.
 use Rattle.std.proofs.Common.{◌≡◌, ℕ, zero, suc, ◌<◌, Bool, List, [], ◌∷◌, ◌++◌, length, Option, Some, None, refl, sym, subst, ap, ◌∙◌, append_assoc, arith}
 use Rattle.std.proofs.lemmas.List.{append-nil}
-use Rattle.sparql_symbol.specs.declared.symbol.Shape.{Shape}
-use Rattle.sparql_symbol.specs.declared.symbol.Shape.TheVariants as s
-use Rattle.sparql_symbol.specs.declared.symbol.Symbol.{Symbol}
-use Rattle.sparql_grammar.specs.Symbols.{Is, is, Holds, holds}
+use Rattle.sparql_tree.specs.declared.symbol.Shape.{Shape}
+use Rattle.sparql_tree.specs.declared.symbol.Shape.TheVariants as s
+use Rattle.sparql_tree.specs.declared.symbol.Symbol.{Symbol}
+use Rattle.sparql_tree.specs.Heads.{Is, is, Holds, holds}
 use Rattle.sparql_grammar.specs.Parser as p
-use Rattle.sparql_grammar.specs.Parser.{Parser, and_then, head, next, value, more, all_more, again, repeat, all_steps, onward, ◌>>=◌, ◌>>◌, ◌<<◌, ◌<$>◌, peek, take, spelled, pure, close_paren}
+use Rattle.sparql_grammar.specs.Parser.{Parser, and_then, next, value, more, all_more, again, repeat, all_steps, onward, ◌>>=◌, ◌>>◌, ◌<<◌, ◌<$>◌, peek, take, spelled, pure, close_paren}
+use Rattle.sparql_tree.specs.Heads.{head}
 
 -- ---- symbols
 

@@ -7,12 +7,13 @@ use Rattle.term_core.specs.Spelling.{lang_string}
 use Rattle.term_core.specs.Texts.{xsd_string}
 use Rattle.term_core.specs.declared.term.Term.{Term}
 use Rattle.term_core.specs.declared.term.Term.TheVariants as terms
-use Rattle.sparql_symbol.specs.declared.symbol.Shape.{Shape}
-use Rattle.sparql_symbol.specs.declared.symbol.Shape.TheVariants as s
-use Rattle.sparql_symbol.specs.declared.symbol.Symbol.{Symbol}
-use Rattle.sparql_grammar.specs.Symbols.{Is, is, Holds, holds}
-use Rattle.sparql_grammar.specs.Parser.{Parser, head, next, value, refuse, pure}
-use Rattle.sparql_grammar.specs.Terms.{IsNumber, integer, decimal, IsTerm, iri, plain, tagged, typed, number, plus, minus, boolean, literal, xsd_boolean}
+use Rattle.sparql_tree.specs.declared.symbol.Shape.{Shape}
+use Rattle.sparql_tree.specs.declared.symbol.Shape.TheVariants as s
+use Rattle.sparql_tree.specs.declared.symbol.Symbol.{Symbol}
+use Rattle.sparql_tree.specs.Heads.{Is, is, Holds, holds}
+use Rattle.sparql_grammar.specs.Parser.{Parser, next, value, refuse, pure}
+use Rattle.sparql_tree.specs.Heads.{head}
+use Rattle.sparql_tree.specs.Terms.{IsNumber, integer, decimal, IsTerm, iri, plain, tagged, typed, number, plus, minus, boolean, literal, xsd_boolean}
 use Rattle.sparql_grammar.specs.TermReading as r
 use Rattle.sparql_grammar.proofs.Steps.{is-next, holds-next, is-head, holds-head, is-shorter, holds-shorter, Good, weaken, Finds}
 

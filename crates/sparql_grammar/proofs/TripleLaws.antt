@@ -5,14 +5,15 @@ use Rattle.term_core.specs.declared.pattern.Place.{Place}
 use Rattle.term_core.specs.declared.pattern.Place.TheVariants as places
 use Rattle.term_core.specs.declared.term.Term.TheVariants as terms
 use Rattle.sparql_tree.specs.Groups.{Element, Triples}
-use Rattle.sparql_symbol.specs.declared.symbol.Shape.{Shape}
-use Rattle.sparql_symbol.specs.declared.symbol.Shape.TheVariants as s
-use Rattle.sparql_symbol.specs.declared.symbol.Symbol.{Symbol}
-use Rattle.sparql_grammar.specs.Symbols.{Is}
-use Rattle.sparql_grammar.specs.Parser.{Parser, head, next, ◌>>=◌, ◌>>◌, ◌<$>◌, peek, take, more, all_more, repeat, all_steps}
-use Rattle.sparql_grammar.specs.Terms.{IsTerm}
+use Rattle.sparql_tree.specs.declared.symbol.Shape.{Shape}
+use Rattle.sparql_tree.specs.declared.symbol.Shape.TheVariants as s
+use Rattle.sparql_tree.specs.declared.symbol.Symbol.{Symbol}
+use Rattle.sparql_tree.specs.Heads.{Is}
+use Rattle.sparql_grammar.specs.Parser.{Parser, next, ◌>>=◌, ◌>>◌, ◌<$>◌, peek, take, more, all_more, repeat, all_steps}
+use Rattle.sparql_tree.specs.Heads.{head}
+use Rattle.sparql_tree.specs.Terms.{IsTerm}
 use Rattle.sparql_grammar.specs.TermReading.{term}
-use Rattle.sparql_grammar.specs.Triples.{pattern, rdf_type, IsNode, node_variable, node_blank, node_term, IsVerb, verb_variable, verb_iri, verb_a, ObjectTail, object_end, object_more, IsObjects, objects, PropertyTail, property_end, property_none, property_more, IsSame, same, IsBlock, block_one, block_point, block_more, IsTriples, no_triples, triples}
+use Rattle.sparql_tree.specs.Triples.{pattern, rdf_type, IsNode, node_variable, node_blank, node_term, IsVerb, verb_variable, verb_iri, verb_a, ObjectTail, object_end, object_more, IsObjects, objects, PropertyTail, property_end, property_none, property_more, IsSame, same, IsBlock, block_one, block_point, block_more, IsTriples, no_triples, triples}
 use Rattle.sparql_grammar.specs.TripleReading as r
 use Rattle.sparql_grammar.specs.TripleReading.{begins_node, begins_verb}
 use Rattle.sparql_grammar.proofs.Steps.{is-next, holds-next, is-head, holds-head, is-shorter, holds-shorter, Good, then_good, weaken, Adds, none_more, one_more, Extends, Turns, all_more-sound, Grows, GrowsBy, append_more, all_steps-sound, Finds, same_found, more-stop, more-step, repeat-stop, repeat-step, then-finds, map-finds, take-finds, at-finds, spelled-finds, tested-finds}

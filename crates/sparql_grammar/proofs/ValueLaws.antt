@@ -4,14 +4,15 @@ use Rattle.std.specs.FinMap as finmap
 use Rattle.term_core.specs.Mappings.{Name, Row}
 use Rattle.term_core.specs.declared.term.Term.{Term}
 use Rattle.sparql_tree.specs.Groups.{Element, Values}
-use Rattle.sparql_symbol.specs.declared.symbol.Shape.{Shape}
-use Rattle.sparql_symbol.specs.declared.symbol.Shape.TheVariants as s
-use Rattle.sparql_symbol.specs.declared.symbol.Symbol.{Symbol}
-use Rattle.sparql_grammar.specs.Symbols.{Is, Holds}
-use Rattle.sparql_grammar.specs.Parser.{head, next, value, ◌>>=◌, ◌>>◌, ◌<<◌, ◌<$>◌, pure, take, spelled, more, all_more, open_brace, close_brace, close_paren}
-use Rattle.sparql_grammar.specs.Terms.{IsTerm}
+use Rattle.sparql_tree.specs.declared.symbol.Shape.{Shape}
+use Rattle.sparql_tree.specs.declared.symbol.Shape.TheVariants as s
+use Rattle.sparql_tree.specs.declared.symbol.Symbol.{Symbol}
+use Rattle.sparql_tree.specs.Heads.{Is, Holds}
+use Rattle.sparql_grammar.specs.Parser.{next, value, ◌>>=◌, ◌>>◌, ◌<<◌, ◌<$>◌, pure, take, spelled, more, all_more, open_brace, close_brace, close_paren}
+use Rattle.sparql_tree.specs.Heads.{head}
+use Rattle.sparql_tree.specs.Terms.{IsTerm}
 use Rattle.sparql_grammar.specs.TermReading.{term}
-use Rattle.sparql_grammar.specs.Values.{with_cell, IsCell, cell_term, cell_undef, IsRow, row_end, row_more, OneRows, one_end, one_more, IsNames, names_end, names_more, FullRows, full_end, full_more, IsValues, values_one, values_full}
+use Rattle.sparql_tree.specs.Values.{with_cell, IsCell, cell_term, cell_undef, IsRow, row_end, row_more, OneRows, one_end, one_more, IsNames, names_end, names_more, FullRows, full_end, full_more, IsValues, values_one, values_full}
 use Rattle.sparql_grammar.specs.ValueReading as r
 use Rattle.sparql_grammar.proofs.Steps.{is-next, holds-next, is-head, holds-head, holds-behind, holds-value, is-shorter, holds-shorter, Good, then_good, weaken, Adds, none_more, Extends, Turns, all_more-sound, close-sound, open_brace-sound, close_brace-sound, Finds, same_found, more-stop, more-step, then-finds, map-finds, take-finds, at-finds, closed-finds, close-finds, open_brace-finds, close_brace-finds}
 use Rattle.sparql_grammar.proofs.ExprSound.{closed-sound}

@@ -6,11 +6,11 @@ use Rattle.sparql_tree.specs.declared.words.AggregateKind.TheVariants as kinds
 use Rattle.sparql_tree.specs.declared.words.CompareOp.{CompareOp}
 use Rattle.sparql_tree.specs.declared.words.Function.{Function}
 use Rattle.sparql_tree.specs.declared.words.Function.TheVariants as functions
-use Rattle.sparql_symbol.specs.declared.symbol.Shape.{Shape}
-use Rattle.sparql_symbol.specs.declared.symbol.Shape.TheVariants as s
+use Rattle.sparql_tree.specs.declared.symbol.Shape.{Shape}
+use Rattle.sparql_tree.specs.declared.symbol.Shape.TheVariants as s
 use Rattle.sparql_grammar.specs.Parser.{Parser, ◌>>=◌, ◌>>◌, ◌<<◌, ◌<$>◌, pure, refuse, peek, take, spelled, all_more, open_paren, close_paren, name}
 use Rattle.sparql_grammar.specs.TermReading.{term, number}
-use Rattle.sparql_grammar.specs.Expressions.{or_node, and_node, sum_node, product_node, op_of, begins_number, takes}
+use Rattle.sparql_tree.specs.Expressions.{or_node, and_node, sum_node, product_node, op_of, begins_number, takes}
 
 abbrev pub distinct_by : Option Shape → Parser Bool
 distinct_by (Some s.Distinct) = take >> pure true

@@ -1,13 +1,9 @@
 -- Reading symbols from left to right: what is read, and the symbols behind it; or nothing.
 use Rattle.std.specs.Prelude.{ℕ, zero, suc, List, [], ◌∷◌, ◌++◌, length, Option, Some, None}
-use Rattle.sparql_symbol.specs.declared.symbol.Shape.{Shape}
-use Rattle.sparql_symbol.specs.declared.symbol.Shape.TheVariants as s
-use Rattle.sparql_symbol.specs.declared.symbol.Symbol.{Symbol}
-
--- what the first symbol is, if there is one
-abbrev pub shape_of : List Symbol → Option Shape
-shape_of [] = None
-shape_of (first ∷ rest) = Some first.shape
+use Rattle.sparql_tree.specs.declared.symbol.Shape.{Shape}
+use Rattle.sparql_tree.specs.declared.symbol.Shape.TheVariants as s
+use Rattle.sparql_tree.specs.declared.symbol.Symbol.{Symbol}
+pub use Rattle.sparql_tree.specs.Heads.{head}
 
 -- the value of the first symbol
 abbrev pub value_of : List Symbol → List ℕ
@@ -19,10 +15,7 @@ abbrev pub behind : List Symbol → List Symbol
 behind [] = []
 behind (first ∷ rest) = rest
 
--- these three, kept folded
-unfoldable pub head : List Symbol → Option Shape
-head ts = shape_of ts
-
+-- these two, kept folded
 unfoldable pub value : List Symbol → List ℕ
 value ts = value_of ts
 

@@ -4,12 +4,12 @@ use Rattle.term_core.specs.Numbers.{are_digits}
 use Rattle.term_core.specs.Numbers as numbers
 use Rattle.sparql_tree.specs.Exprs.{Expr, Var}
 use Rattle.sparql_tree.specs.Groups.{Group, SelectItem, GroupKey, OrderKey, Query}
-use Rattle.sparql_symbol.specs.declared.symbol.Shape.{Shape}
-use Rattle.sparql_symbol.specs.declared.symbol.Shape.TheVariants as s
+use Rattle.sparql_tree.specs.declared.symbol.Shape.{Shape}
+use Rattle.sparql_tree.specs.declared.symbol.Shape.TheVariants as s
 use Rattle.sparql_grammar.specs.Parser.{Parser, ◌>>=◌, ◌>>◌, ◌<$>◌, pure, refuse, peek, take, spelled, all_more, open_paren, close_paren, as_word, name}
 use Rattle.sparql_grammar.specs.ExprReading.{expr, call}
 use Rattle.sparql_grammar.specs.GroupReading.{constraint, group}
-use Rattle.sparql_grammar.specs.Queries.{item, key, ordered}
+use Rattle.sparql_tree.specs.Queries.{item, key, ordered}
 
 abbrev pub select_by : Option Shape → Parser (Unit {0})
 select_by (Some s.Select) = take
@@ -42,13 +42,13 @@ distinctness = peek >>= distinct_by
 
 -- the number that digits write, below 2^64
 abbrev pub fits : List ℕ → Bool
-fits digits = are_digits digits && nat_lt (numbers.value digits) (2 ^ 64)
+fits digits = are_digits digits && nat_lt (numbers.digits_value digits) (2 ^ 64)
 
 abbrev pub counted_if : Bool → ℕ → Parser ℕ
 counted_if fit n = if fit then pure n else refuse
 
 abbrev pub count_by : Option Shape → Parser ℕ
-count_by (Some s.Integer) = spelled >>= (λ digits. counted_if (fits digits) (numbers.value digits))
+count_by (Some s.Integer) = spelled >>= (λ digits. counted_if (fits digits) (numbers.digits_value digits))
 count_by o = refuse
 
 unfoldable pub count : Parser ℕ

@@ -1,6 +1,6 @@
 -- What a function that reads ensures: what the parser finds, unless memory runs out.
 use Rattle.std.specs.Prelude.{◌≡◌, List, Option, Some, None, Result, Ok, Err}
-use Rattle.sparql_symbol.specs.declared.symbol.Symbol.{Symbol}
+use Rattle.sparql_tree.specs.declared.symbol.Symbol.{Symbol}
 use Rattle.sparql_grammar.specs.declared.fault.Fault.{Fault}
 use Rattle.sparql_grammar.specs.declared.fault.Fault.TheVariants.{NotAQuery, Memory}
 

@@ -3,8 +3,8 @@ use Rattle.std.specs.Prelude.{List}
 use Rattle.sparql_tree.specs.Groups.{Query}
 use Rattle.sparql_tree.specs.declared.fault.QueryFault.{QueryFault}
 use Rattle.sparql_tree.specs.declared.fault.QueryFault.TheVariants as faults
-use Rattle.sparql_symbol.specs.declared.symbol.Symbol.{Symbol}
-use Rattle.sparql_grammar.specs.Queries.{IsQuery}
+use Rattle.sparql_tree.specs.declared.symbol.Symbol.{Symbol}
+use Rattle.sparql_tree.specs.Queries.{IsQuery}
 
 -- want of memory, or that they spell no query
 abbrev pub WhyNone : List Symbol → QueryFault → Type 0

@@ -6,10 +6,10 @@ use Rattle.term_core.specs.Spelling.{lang_string}
 use Rattle.term_core.specs.Texts.{xsd_string}
 use Rattle.term_core.specs.declared.term.Term.{Term}
 use Rattle.term_core.specs.declared.term.Term.TheVariants as terms
-use Rattle.sparql_symbol.specs.declared.symbol.Shape.{Shape}
-use Rattle.sparql_symbol.specs.declared.symbol.Shape.TheVariants as s
+use Rattle.sparql_tree.specs.declared.symbol.Shape.{Shape}
+use Rattle.sparql_tree.specs.declared.symbol.Shape.TheVariants as s
 use Rattle.sparql_grammar.specs.Parser.{Parser, ◌>>=◌, ◌>>◌, ◌<$>◌, pure, refuse, peek, take, spelled}
-use Rattle.sparql_grammar.specs.Terms.{literal, xsd_boolean}
+use Rattle.sparql_tree.specs.Terms.{literal, xsd_boolean}
 
 abbrev pub number_by : List ℕ → Option Shape → Parser Term
 number_by sign (Some s.Integer) = (λ digits. literal (sign ++ digits) xsd_integer) <$> spelled

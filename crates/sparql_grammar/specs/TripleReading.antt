@@ -5,11 +5,11 @@ use Rattle.term_core.specs.declared.pattern.Place.{Place}
 use Rattle.term_core.specs.declared.pattern.Place.TheVariants as places
 use Rattle.term_core.specs.declared.term.Term.TheVariants as terms
 use Rattle.sparql_tree.specs.Groups.{Element, Triples}
-use Rattle.sparql_symbol.specs.declared.symbol.Shape.{Shape}
-use Rattle.sparql_symbol.specs.declared.symbol.Shape.TheVariants as s
+use Rattle.sparql_tree.specs.declared.symbol.Shape.{Shape}
+use Rattle.sparql_tree.specs.declared.symbol.Shape.TheVariants as s
 use Rattle.sparql_grammar.specs.Parser.{Parser, ◌>>=◌, ◌>>◌, ◌<$>◌, pure, refuse, peek, take, spelled, all_more, all_steps}
 use Rattle.sparql_grammar.specs.TermReading.{term}
-use Rattle.sparql_grammar.specs.Triples.{pattern, rdf_type}
+use Rattle.sparql_tree.specs.Triples.{pattern, rdf_type}
 
 abbrev pub node_by : Option Shape → Parser Place
 node_by (Some s.Var) = places.Var <$> spelled

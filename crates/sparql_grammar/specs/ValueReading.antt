@@ -4,11 +4,11 @@ use Rattle.std.specs.FinMap as finmap
 use Rattle.term_core.specs.Mappings.{Name, Row}
 use Rattle.term_core.specs.declared.term.Term.{Term}
 use Rattle.sparql_tree.specs.Groups.{Element, Values}
-use Rattle.sparql_symbol.specs.declared.symbol.Shape.{Shape}
-use Rattle.sparql_symbol.specs.declared.symbol.Shape.TheVariants as s
+use Rattle.sparql_tree.specs.declared.symbol.Shape.{Shape}
+use Rattle.sparql_tree.specs.declared.symbol.Shape.TheVariants as s
 use Rattle.sparql_grammar.specs.Parser.{Parser, ◌>>=◌, ◌>>◌, ◌<<◌, ◌<$>◌, pure, refuse, peek, take, spelled, all_more, open_brace, close_brace, close_paren}
 use Rattle.sparql_grammar.specs.TermReading.{term}
-use Rattle.sparql_grammar.specs.Values.{with_cell}
+use Rattle.sparql_tree.specs.Values.{with_cell}
 
 abbrev pub cell_by : Option Shape → Parser (Option Term)
 cell_by (Some s.Undef) = take >> pure None

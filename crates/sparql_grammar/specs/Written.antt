@@ -1,10 +1,5 @@
 -- The trees of what is read of a query before its repeated variables are dropped.
 use Rattle.std.specs.Prelude.{ℕ, Bool, List, map, Option}
-use Rattle.std.specs.declared.string.String.{String}
-use Rattle.std.specs.BTreeSet.{BTreeSet, contains_text}
-use Rattle.std.specs.Global.{Global}
-use Rattle.std.specs.Prelude.{◌≡◌}
-use Rattle.term_core.specs.Mappings.{Name, has_name}
 use Rattle.sparql_tree.specs.Groups as tree
 use Rattle.sparql_tree.specs.ExprTrees.{trees_of}
 use Rattle.sparql_tree.specs.GroupTrees.{group_of, item_of, key_of, order_of}
@@ -33,7 +28,3 @@ written_of written = record {
   limit = written.slice.limit;
   offset = written.slice.offset;
 }
-
--- the set has the texts that are among the names
-abbrev pub HasNames : BTreeSet (String Global) → List Name → Type 0
-HasNames seen names = (text : List ℕ) → contains_text seen text ≡ has_name names text

@@ -5,7 +5,7 @@ ghost use Rattle.sparql_grammar.specs.Parser as spec;
 ghost use Rattle.sparql_grammar.specs.Reads.{Reads, same, nothing};
 
 use crate::fault::Fault;
-use sparql_symbol::{Shape, Symbol};
+use sparql_tree::{Shape, Symbol};
 use std::alloc::Global;
 use std::marker::Model;
 use term_core::{Memory, Text};
@@ -18,7 +18,7 @@ pub struct Cursor<'a> {
 
 impl<'a> Model for Cursor<'a> {
     ghost use Rattle.std.specs.Prelude.{List};
-    ghost use Rattle.sparql_symbol.specs.declared.symbol.Symbol.{Symbol};
+    ghost use Rattle.sparql_tree.specs.declared.symbol.Symbol.{Symbol};
 
     ghost Value = { List Symbol };
 

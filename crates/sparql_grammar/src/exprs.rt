@@ -3,15 +3,14 @@
 ghost use Rattle.std.specs.Prelude.{◌≡◌, ◌∷◌, [], IfOk};
 ghost use Rattle.sparql_tree.specs.Exprs as tree;
 ghost use Rattle.sparql_tree.specs.ExprTrees.{tree_of, trees_of, signs_of, factors_of};
-ghost use Rattle.sparql_grammar.specs.Expressions as grammar;
+ghost use Rattle.sparql_tree.specs.Expressions as grammar;
 ghost use Rattle.sparql_grammar.specs.ExprReading as spec;
 ghost use Rattle.sparql_grammar.specs.Reads.{Reads, same, nothing};
 
 use crate::cursor::Cursor;
 use crate::fault::Fault;
 use crate::terms::{number, term};
-use sparql_symbol::Shape;
-use sparql_tree::{AggregateKind, CompareOp, Expr, Factor, Function, Signed};
+use sparql_tree::{AggregateKind, CompareOp, Expr, Factor, Function, Shape, Signed};
 use std::alloc::Global;
 use term_core::{Memory, Term, Text};
 

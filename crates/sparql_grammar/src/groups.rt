@@ -13,8 +13,7 @@ use crate::exprs::{aggregate, call, expr};
 use crate::fault::Fault;
 use crate::triples::triples;
 use crate::values::values;
-use sparql_symbol::Shape;
-use sparql_tree::{Element, Expr, Group};
+use sparql_tree::{Element, Expr, Group, Shape};
 use std::alloc::Global;
 use term_core::Memory;
 

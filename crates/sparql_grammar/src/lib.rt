@@ -1,4 +1,4 @@
-//! The grammar of queries, and the reader of them.
+//! The reader of the grammar of queries: the tree that symbols spell.
 #![tactic(auto)]
 
 mod cursor;
@@ -9,9 +9,7 @@ pub mod law;
 mod queries;
 mod read;
 mod terms;
-mod text;
 mod triples;
 mod values;
 
 pub use read::read_symbols;
-pub use text::read_tree;

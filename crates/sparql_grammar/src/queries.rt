@@ -1,10 +1,11 @@
 //! Queries (SPARQL 1.1, section 19.8, SelectQuery).
 
 ghost use Rattle.std.specs.Prelude.{◌≡◌, ◌<◌, ◌^◌, ◌*◌, ◌+◌, ◌-◌, ◌∷◌, [], true, map, IfOk, OnOk};
-ghost use Rattle.term_core.specs.Numbers.{are_digits, is_digit, value_after};
+ghost use Rattle.term_core.specs.Characters.{is_digit};
+ghost use Rattle.term_core.specs.Numbers.{are_digits, value_after};
 ghost use Rattle.sparql_tree.specs.ExprTrees.{tree_of, trees_of};
 ghost use Rattle.sparql_tree.specs.GroupTrees.{group_of, item_of, key_of, order_of};
-ghost use Rattle.sparql_grammar.specs.Queries as grammar;
+ghost use Rattle.sparql_tree.specs.Queries as grammar;
 ghost use Rattle.sparql_grammar.specs.QueryReading as spec;
 ghost use Rattle.sparql_grammar.specs.Counts.{below, counted};
 ghost use Rattle.sparql_grammar.specs.Reads.{Reads, same, nothing};
@@ -14,8 +15,7 @@ use crate::cursor::Cursor;
 use crate::exprs::{call, expr, variable};
 use crate::fault::Fault;
 use crate::groups::{constraint, group};
-use sparql_symbol::Shape;
-use sparql_tree::{Expr, Group, GroupKey, OrderKey, Query, SelectItem};
+use sparql_tree::{Expr, Group, GroupKey, OrderKey, Query, SelectItem, Shape};
 use std::alloc::Global;
 use std::collections::BTreeSet;
 use term_core::{Items, Memory, Text};

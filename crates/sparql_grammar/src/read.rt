@@ -1,18 +1,18 @@
 //! The query that symbols spell.
 
 ghost use Rattle.std.specs.Prelude.{◌≡◌, [], map, IfOk, IfErr, OnOk};
-ghost use Rattle.sparql_symbol.specs.declared.symbol.Symbol.{Symbol};
+ghost use Rattle.sparql_tree.specs.declared.symbol.Symbol.{Symbol};
 ghost use Rattle.sparql_tree.specs.Groups as tree;
 ghost use Rattle.sparql_tree.specs.GroupTrees.{item_of, query_of};
-ghost use Rattle.sparql_grammar.specs.Queries.{IsQuery, variables, with_item, with_items, without_repeats};
+ghost use Rattle.sparql_tree.specs.Queries.{IsQuery, variables, with_item, with_items, without_repeats};
 ghost use Rattle.sparql_grammar.specs.Refusals.{WhyNone};
-ghost use Rattle.sparql_grammar.specs.Written.{HasNames, written_of};
+ghost use Rattle.sparql_grammar.specs.Written.{written_of};
+ghost use Rattle.sparql_tree.specs.NameSets.{HasNames};
 
 use crate::cursor::Cursor;
 use crate::fault::Fault;
 use crate::queries::{Selection, Written, query};
-use sparql_symbol::Symbol;
-use sparql_tree::{Query, QueryFault, SelectItem};
+use sparql_tree::{Query, QueryFault, SelectItem, Symbol};
 use std::alloc::Global;
 use std::collections::BTreeSet;
 use term_core::{Items, Memory};

@@ -1,49 +1,24 @@
 //! Terms.
 
 ghost use Rattle.std.specs.Prelude.{◌≡◌, ◌++◌, [], IfOk};
-ghost use Rattle.term_core.specs.Spelling.{lang_string};
-ghost use Rattle.term_core.specs.declared.term.Term.TheVariants as terms;
-ghost use Rattle.sparql_grammar.specs.Terms.{literal};
+ghost use Rattle.sparql_tree.specs.Terms.{literal};
 ghost use Rattle.sparql_grammar.specs.TermReading as spec;
 ghost use Rattle.sparql_grammar.specs.Reads.{Reads, same};
 
 use crate::cursor::Cursor;
 use crate::fault::Fault;
-use sparql_symbol::Shape;
+use sparql_tree::Shape;
 use std::alloc::Global;
-use term_core::{Memory, Term, Text};
-
-const XSD_STRING: &str = "http://www.w3.org/2001/XMLSchema#string";
-
-const XSD_INTEGER: &str = "http://www.w3.org/2001/XMLSchema#integer";
-
-const XSD_DECIMAL: &str = "http://www.w3.org/2001/XMLSchema#decimal";
-
-const XSD_BOOLEAN: &str = "http://www.w3.org/2001/XMLSchema#boolean";
-
-const LANG_STRING: &str = "http://www.w3.org/1999/02/22-rdf-syntax-ns#langString";
+use term_core::{
+    Memory, RDF_LANG_STRING, Term, Text, XSD_BOOLEAN, XSD_DECIMAL, XSD_INTEGER, XSD_STRING,
+};
 
 /// A literal without a tag.
 fn literal(alloc: Global, lexical: Text, datatype: &str) -> Result<Term, Memory>
     ensures { IfOk result (λ term. term ≡ literal lexical datatype.now) }
 {
-    Ok(Term::Literal {
-        lexical,
-        datatype: Text::from_str(alloc, datatype)?,
-        lang: Text::from_str(alloc, "")?,
-    })
-}
-
-/// A literal with a tag.
-fn tagged(alloc: Global, lexical: Text, lang: Text) -> Result<Term, Memory>
-    ensures { IfOk result (λ term. term ≡ terms.Literal lexical lang_string lang) }
-{
-    let datatype = Text::from_str(alloc, LANG_STRING)?;
-    Ok(Term::Literal {
-        lexical,
-        datatype,
-        lang,
-    })
+    let datatype = Text::from_str(alloc, datatype)?;
+    Term::typed(alloc, lexical, datatype)
 }
 
 /// The sign, and the digits behind it.
@@ -81,7 +56,7 @@ fn typed(alloc: Global, cursor: &mut Cursor<'_>, lexical: Text) -> Result<Term, 
     match cursor.peek() {
         Some(Shape::Iri) => {
             let datatype = cursor.take(alloc)?;
-            if datatype.bytes() == LANG_STRING.as_bytes() {
+            if datatype.bytes() == RDF_LANG_STRING.as_bytes() {
                 Err(Fault::NotAQuery)
             } else {
                 Ok(literal(alloc, lexical, datatype.as_str())?)
@@ -99,7 +74,7 @@ fn quoted(alloc: Global, cursor: &mut Cursor<'_>, lexical: Text) -> Result<Term,
     match cursor.peek() {
         Some(Shape::Tag) => {
             let lang = cursor.take(alloc)?;
-            Ok(tagged(alloc, lexical, lang)?)
+            Ok(Term::tagged(alloc, lexical, lang)?)
         }
         Some(Shape::Typed) => {
             cursor.advance();

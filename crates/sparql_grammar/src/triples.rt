@@ -1,7 +1,7 @@
 //! Triple patterns (SPARQL 1.1, section 19.8, TriplesBlock).
 
 ghost use Rattle.std.specs.Prelude.{◌≡◌, ◌∷◌, ◌++◌, [], IfOk};
-ghost use Rattle.sparql_grammar.specs.Triples as grammar;
+ghost use Rattle.sparql_tree.specs.Triples as grammar;
 ghost use Rattle.sparql_grammar.specs.TripleReading as spec;
 ghost use Rattle.sparql_grammar.specs.Elements.{elements_there};
 ghost use Rattle.sparql_grammar.specs.Reads.{Reads, same};
@@ -9,8 +9,7 @@ ghost use Rattle.sparql_grammar.specs.Reads.{Reads, same};
 use crate::cursor::Cursor;
 use crate::fault::Fault;
 use crate::terms::term;
-use sparql_symbol::Shape;
-use sparql_tree::Element;
+use sparql_tree::{Element, Shape};
 use std::alloc::Global;
 use term_core::{Items, Memory, Pattern, Place, Term, Text};
 

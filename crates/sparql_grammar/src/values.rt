@@ -2,15 +2,14 @@
 
 ghost use Rattle.std.specs.Prelude.{◌≡◌, IfOk};
 ghost use Rattle.sparql_tree.specs.GroupTrees.{element_of};
-ghost use Rattle.sparql_grammar.specs.Values.{with_cell};
+ghost use Rattle.sparql_tree.specs.Values.{with_cell};
 ghost use Rattle.sparql_grammar.specs.ValueReading as spec;
 ghost use Rattle.sparql_grammar.specs.Reads.{Reads, same};
 
 use crate::cursor::Cursor;
 use crate::fault::Fault;
 use crate::terms::term;
-use sparql_symbol::Shape;
-use sparql_tree::Element;
+use sparql_tree::{Element, Shape};
 use std::alloc::Global;
 use term_core::{Items, Memory, Row, RowBuilder, Term, Text};
 

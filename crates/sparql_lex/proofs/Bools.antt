@@ -4,7 +4,7 @@ use Rattle.std.specs.Prelude.{◌==◌, ◌||◌, ◌&&◌}
 use Rattle.std.specs.List.{list_all}
 use Rattle.std.proofs.lemmas.Bool.Decides.{nat_tests}
 use Rattle.term_core.specs.Characters.{is_letter, is_digit, is_pn, is_pn_u, is_pn_base, is_among, AreAll}
-use Rattle.term_core.specs.Terminals.{is_word_part, is_local_part, is_label_first, is_local_first}
+use Rattle.term_core.specs.Terminals.{is_word_part, is_local_part, is_query_label_first, is_local_first}
 
 pub both : (a b : Bool) → (a && b) ≡ true → (a ≡ true) × (b ≡ true)
 both true b h = (refl, h)
@@ -44,11 +44,11 @@ word-pn c h = grind (arith, nat_tests)
 pub letter-word : (c : ℕ) → is_letter c ≡ true → is_word_part c ≡ true
 letter-word c h = grind (arith, nat_tests)
 
-pub label_first-local : (c : ℕ) → is_label_first c ≡ true → is_local_part c ≡ true
+pub label_first-local : (c : ℕ) → is_query_label_first c ≡ true → is_local_part c ≡ true
 unfolding is_pn
 label_first-local c h = grind (arith, nat_tests)
 
-pub label_first-local_first : (c : ℕ) → (is_label_first c || (c == 58)) ≡ true → is_local_first c ≡ true
+pub label_first-local_first : (c : ℕ) → (is_query_label_first c || (c == 58)) ≡ true → is_local_first c ≡ true
 label_first-local_first c h = grind (arith, nat_tests)
 
 -- characters that are in no name
@@ -81,7 +81,7 @@ unfolding is_pn_u is_pn_base
 pn_u-backslash = refl
 
 -- how a local name begins, but for an escape
-pub local_first-part : (c : ℕ) → is_local_first c ≡ true → is_local_part c ≡ true → (is_label_first c || (c == 58)) ≡ true
+pub local_first-part : (c : ℕ) → is_local_first c ≡ true → is_local_part c ≡ true → (is_query_label_first c || (c == 58)) ≡ true
 local_first-part c h p =
     let no_percent : (c == 37) ≡ false = other_than is_local_part c 37 p (rw pn-percent refl) in
     let no_backslash : (c == 92) ≡ false = other_than is_local_part c 92 p (rw pn-backslash refl) in

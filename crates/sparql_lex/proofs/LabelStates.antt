@@ -6,7 +6,7 @@ use Rattle.term_core.specs.declared.token.Kind.TheVariants as kinds
 use Rattle.sparql_lex.specs.declared.state.State.TheVariants as states
 use Rattle.term_core.specs.Characters.{is_pn, is_pn_base, is_among, AreAll}
 use Rattle.term_core.specs.Names.{IsDotted, IsName}
-use Rattle.term_core.specs.Terminals.{IsBlank, IsVariable, is_label_first, is_variable_part}
+use Rattle.term_core.specs.Terminals.{IsBlank, IsVariable, is_query_label_first, is_variable_part}
 use Rattle.sparql_lex.specs.declared.state.Label.{Label}
 use Rattle.sparql_lex.specs.declared.state.Label.TheVariants as labels
 use Rattle.sparql_lex.specs.declared.state.Variable.{Variable}
@@ -19,11 +19,11 @@ use Rattle.sparql_lex.proofs.Reading.{reads, read-cases}
 -- what may follow in each state, up to a token of the kind
 abbrev pub LabelTail : Label → Kind → List ℕ → Type 0
 LabelTail labels.Underscore kind text = (kind ≡ kinds.Blank) × IsBlank (95 ∷ text)
-LabelTail labels.Colon kind text = (kind ≡ kinds.Blank) × IsName is_label_first is_pn text
+LabelTail labels.Colon kind text = (kind ≡ kinds.Blank) × IsName is_query_label_first is_pn text
 LabelTail labels.Part kind text = (kind ≡ kinds.Blank) × IsDotted is_pn text
 LabelTail labels.Dot kind text = (kind ≡ kinds.Blank) × (text ≢ []) × IsDotted is_pn text
 
-blank : (c : ℕ) (label : List ℕ) → (c == 58) ≡ true → IsName is_label_first is_pn label → IsBlank (95 ∷ c ∷ label)
+blank : (c : ℕ) (label : List ℕ) → (c == 58) ≡ true → IsName is_query_label_first is_pn label → IsBlank (95 ∷ c ∷ label)
 blank c label h n = record { label = label; is_label = n; spelled = ap (λ v. 95 ∷ v ∷ label) (same c 58 h) }
 
 pub label-sound : (text : List ℕ) (label : Label) (kind : Kind) → reads text (states.Label label) ≡ Some kind → LabelTail label kind text
@@ -67,12 +67,12 @@ dotted-read (c ∷ d ∷ text) h =
           (rw pn-dot (dot-same (d ∷ text) (not-empty d text) ∙ more))
     ]
 
-label-first : (c : ℕ) (label : List ℕ) → is_label_first c ≡ true → reads label (states.Label labels.Part) ≡ Some kinds.Blank
+label-first : (c : ℕ) (label : List ℕ) → is_query_label_first c ≡ true → reads label (states.Label labels.Part) ≡ Some kinds.Blank
     → reads (c ∷ label) (states.Label labels.Colon) ≡ Some kinds.Blank
 unfolding step
 label-first c label h r = rw h r
 
-label-read : (label : List ℕ) → IsName is_label_first is_pn label → reads (95 ∷ 58 ∷ label) states.Start ≡ Some kinds.Blank
+label-read : (label : List ℕ) → IsName is_query_label_first is_pn label → reads (95 ∷ 58 ∷ label) states.Start ≡ Some kinds.Blank
 unfolding step is_pn_base
 label-read [] h = elim h [ ]
 label-read (c ∷ label) h = label-first c label h.0 (dotted-read label h.1)
@@ -84,7 +84,7 @@ blank-read text h = subst (λ v. reads v states.Start ≡ Some kinds.Blank) (sym
 pub record NameBehind (text : List ℕ) : Type 0 where
   pub first : ℕ
   pub more : List ℕ
-  pub is_first : is_label_first first ≡ true
+  pub is_first : is_query_label_first first ≡ true
   pub are_parts : AreAll is_variable_part more
   pub spelled : text ≡ first ∷ more
 
@@ -93,7 +93,7 @@ VariableTail variables.Question kind text = ((kind ≡ kinds.Sign) × (text ≡ 
 VariableTail variables.Dollar kind text = (kind ≡ kinds.Var) × NameBehind text
 VariableTail variables.Part kind text = (kind ≡ kinds.Var) × AreAll is_variable_part text
 
-named : (c : ℕ) (text : List ℕ) → is_label_first c ≡ true → AreAll is_variable_part text → NameBehind (c ∷ text)
+named : (c : ℕ) (text : List ℕ) → is_query_label_first c ≡ true → AreAll is_variable_part text → NameBehind (c ∷ text)
 named c text h k = record { first = c; more = text; is_first = h; are_parts = k; spelled = refl }
 
 pub variable-sound : (text : List ℕ) (variable : Variable) (kind : Kind) → reads text (states.Variable variable) ≡ Some kind → VariableTail variable kind text
@@ -116,12 +116,12 @@ part-read : (c : ℕ) (text : List ℕ) → is_variable_part c ≡ true → read
 unfolding step
 part-read c text h r = rw h r
 
-first-read : (c : ℕ) (text : List ℕ) → is_label_first c ≡ true → reads text (states.Variable variables.Part) ≡ Some kinds.Var
+first-read : (c : ℕ) (text : List ℕ) → is_query_label_first c ≡ true → reads text (states.Variable variables.Part) ≡ Some kinds.Var
     → reads (c ∷ text) (states.Variable variables.Question) ≡ Some kinds.Var
 unfolding step
 first-read c text h r = rw h r
 
-dollar-read : (c : ℕ) (text : List ℕ) → is_label_first c ≡ true → reads text (states.Variable variables.Part) ≡ Some kinds.Var
+dollar-read : (c : ℕ) (text : List ℕ) → is_query_label_first c ≡ true → reads text (states.Variable variables.Part) ≡ Some kinds.Var
     → reads (c ∷ text) (states.Variable variables.Dollar) ≡ Some kinds.Var
 unfolding step
 dollar-read c text h r = rw h r
@@ -131,7 +131,7 @@ unfolding step
 parts-read [] h = refl
 parts-read (c ∷ text) h = let f = all-first is_variable_part c text h in part-read c text f.0 (parts-read text f.1)
 
-marked-read : (mark : ℕ) (first : ℕ) (more : List ℕ) → is_among (codes "?$") mark ≡ true → is_label_first first ≡ true → AreAll is_variable_part more
+marked-read : (mark : ℕ) (first : ℕ) (more : List ℕ) → is_among (codes "?$") mark ≡ true → is_query_label_first first ≡ true → AreAll is_variable_part more
     → reads (mark ∷ first ∷ more) states.Start ≡ Some kinds.Var
 unfolding step is_pn_base
 marked-read mark first more m f h =

@@ -3,7 +3,7 @@ use Rattle.std.proofs.Common.{◌≡◌, ◌≢◌, ◌⊎◌, inl, inr, ℕ, Bo
 use Rattle.std.specs.Prelude.{◌==◌, ◌||◌}
 use Rattle.term_core.specs.Characters.{is_letter, is_hex, is_pn, is_pn_u, is_pn_base, AreAll}
 use Rattle.term_core.specs.Names.{IsDotted}
-use Rattle.term_core.specs.Terminals.{IsPrefix, IsLocal, IsPrefixedName, IsWord, AreLocalParts, no_part, part, dot, percent, backslash, is_local_first, is_label_first, is_word_part}
+use Rattle.term_core.specs.Terminals.{IsPrefix, IsLocal, IsPrefixedName, IsWord, AreLocalParts, no_part, part, dot, percent, backslash, is_local_first, is_query_label_first, is_word_part}
 use Rattle.term_core.specs.declared.token.Kind.{Kind}
 use Rattle.term_core.specs.declared.token.Kind.TheVariants as kinds
 use Rattle.sparql_lex.specs.declared.state.State.TheVariants as states
@@ -63,8 +63,8 @@ word-more c text kind h t = elim t as (λ _. NameTail names.Word kind (c ∷ tex
     [ inl w ↦ inl (w.0, rw h w.1) | inr p ↦ inr (p.0, prefix-part c text true (word-pn c h) p.1) ]
 
 -- how a local name begins
-local-part : (c : ℕ) (text : List ℕ) → (is_label_first c || (c == 58)) ≡ true → AreLocalParts text → IsLocal (c ∷ text)
-local-part c text h p = elim (either (is_label_first c) (c == 58) h) as (λ _. IsLocal (c ∷ text)) [
+local-part : (c : ℕ) (text : List ℕ) → (is_query_label_first c || (c == 58)) ≡ true → AreLocalParts text → IsLocal (c ∷ text)
+local-part c text h p = elim (either (is_query_label_first c) (c == 58) h) as (λ _. IsLocal (c ∷ text)) [
   | inl l ↦ (label_first-local_first c h, part (label_first-local c l) p)
   | inr l ↦ (label_first-local_first c h, part (holds_right (is_pn c) (c == 58) l) p)
 ]

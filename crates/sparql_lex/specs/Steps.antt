@@ -5,7 +5,7 @@ use Rattle.std.specs.Char.{digit_value}
 use lib.Utf8.{scalar}
 use Rattle.term_core.specs.Characters.{is_among, is_digit, is_letter, is_hex, is_iri, is_pn_base, is_pn}
 use Rattle.term_core.specs.Names.{is_alphanumeric}
-use Rattle.term_core.specs.Terminals.{is_local_escape, is_local_part, is_label_first, is_variable_part, is_word_part}
+use Rattle.term_core.specs.Terminals.{is_local_escape, is_local_part, is_query_label_first, is_variable_part, is_word_part}
 use Rattle.term_core.specs.Terminals.{is_quote, is_plain_in, is_long_plain}
 use Rattle.term_core.specs.declared.token.Kind.{Kind}
 use Rattle.term_core.specs.declared.token.Kind.TheVariants as kinds
@@ -96,7 +96,7 @@ abbrev pub name_rows : Name → ℕ → List Row
 name_rows names.Word c = (is_word_part c, states.Name names.Word) ∷ (c == 58, states.Name names.Colon) ∷ prefix_rows c
 name_rows names.Prefix c = (c == 58, states.Name names.Colon) ∷ prefix_rows c
 name_rows names.PrefixDot c = prefix_rows c
-name_rows names.Colon c = (is_label_first c || (c == 58), states.Name names.Local) ∷ escape_rows c
+name_rows names.Colon c = (is_query_label_first c || (c == 58), states.Name names.Local) ∷ escape_rows c
 name_rows names.Local c = local_rows c
 name_rows names.LocalDot c = local_rows c
 name_rows names.Percent c = (is_hex c, states.Name names.PercentDigit) ∷ []
@@ -105,12 +105,12 @@ name_rows names.Backslash c = (is_local_escape c, states.Name names.Local) ∷ [
 
 abbrev pub label_rows : Label → ℕ → List Row
 label_rows labels.Underscore c = (c == 58, states.Label labels.Colon) ∷ []
-label_rows labels.Colon c = (is_label_first c, states.Label labels.Part) ∷ []
+label_rows labels.Colon c = (is_query_label_first c, states.Label labels.Part) ∷ []
 label_rows _ c = (is_pn c, states.Label labels.Part) ∷ (c == 46, states.Label labels.Dot) ∷ []
 
 abbrev pub variable_rows : Variable → ℕ → List Row
 variable_rows variables.Part c = (is_variable_part c, states.Variable variables.Part) ∷ []
-variable_rows _ c = (is_label_first c, states.Variable variables.Part) ∷ []
+variable_rows _ c = (is_query_label_first c, states.Variable variables.Part) ∷ []
 
 abbrev pub is_exponent : ℕ → Bool
 is_exponent c = is_among (codes "eE") c

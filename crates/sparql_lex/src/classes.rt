@@ -43,13 +43,6 @@ pub fn is_word_part(c: char) -> bool
     is_letter(c) || is_digit(c) || c == '_'
 }
 
-/// What may stand in an IRI without an escape (IRIREF).
-pub fn is_iri(c: char) -> bool
-    ensures { result ≡ characters.is_iri c }
-{
-    c > ' ' && !matches!(c, '<' | '>' | '"' | '{' | '}' | '|' | '^' | '`' | '\\')
-}
-
 /// What may stand in a string between two such quotes without an escape (STRING_LITERAL1).
 pub fn is_plain_in(quote: char, c: char) -> bool
     ensures { result ≡ terminals.is_plain_in quote c }
@@ -102,7 +95,7 @@ pub fn is_local_escape(c: char) -> bool
 
 /// How a label of a blank node and the name of a variable may begin (BLANK_NODE_LABEL, VARNAME).
 pub fn is_label_first(c: char) -> bool
-    ensures { result ≡ terminals.is_label_first c }
+    ensures { result ≡ terminals.is_query_label_first c }
 {
     is_pn_u(c) || is_digit(c)
 }

@@ -9,8 +9,6 @@ mod names;
 mod scan;
 mod state;
 mod steps;
-#[cfg(test)]
-mod tests;
 
 pub use fault::LexFault;
 pub use lexing::tokens;

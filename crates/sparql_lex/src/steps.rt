@@ -8,11 +8,11 @@ ghost use Rattle.sparql_lex.specs.Steps as spec;
 ghost use Rattle.sparql_lex.specs.Steps.{first_of};
 
 use crate::classes::{
-    is_alphanumeric, is_digit, is_hex, is_iri, is_label_first, is_letter, is_local_escape,
-    is_local_part, is_long_plain, is_plain_in, is_variable_part, is_word_part,
+    is_alphanumeric, is_digit, is_hex, is_label_first, is_letter, is_local_escape, is_local_part,
+    is_long_plain, is_plain_in, is_variable_part, is_word_part,
 };
 use crate::state::{Body, Label, Mark, Name, Number, Quoted, State, Tag, Variable};
-use term_core::{Kind, is_pn, is_pn_base};
+use term_core::{Kind, is_iri, is_pn, is_pn_base};
 
 fn start_step(c: char) -> Option<State>
     ensures { result ≡ first_of (spec.start_rows c) }

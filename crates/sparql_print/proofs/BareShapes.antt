@@ -4,9 +4,9 @@ use Rattle.std.specs.Prelude.{◌||◌}
 use Rattle.std.specs.List.{list_all}
 use Rattle.std.specs.Str.{bytes_eq}
 use Rattle.sparql_lex.proofs.Bools.{both}
-use Rattle.sparql_symbol.specs.declared.symbol.Shape.{Shape}
-use Rattle.sparql_symbol.specs.declared.symbol.Shape.TheVariants as shapes
-use Rattle.sparql_symbol.specs.Words.{Table, first_row, is_word, word_in, or_shape, clause_words, pattern_words, term_functions, value_functions, other_word, word_shape, marks, operators, sign_shape}
+use Rattle.sparql_tree.specs.declared.symbol.Shape.{Shape}
+use Rattle.sparql_tree.specs.declared.symbol.Shape.TheVariants as shapes
+use Rattle.sparql_tree.specs.Words.{Table, first_row, is_word, word_in, or_shape, clause_words, pattern_words, term_functions, value_functions, other_word, word_shape, marks, operators, sign_shape}
 use Rattle.sparql_print.specs.SpelledSymbols.{IsSpelledValue}
 
 -- no value at all can be written

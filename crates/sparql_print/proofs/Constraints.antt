@@ -4,17 +4,16 @@ use Rattle.term_core.specs.Tokens.{Tokens}
 use Rattle.term_core.specs.declared.token.Token.{Token}
 use Rattle.sparql_lex.proofs.Readings.{one-tokens}
 use Rattle.sparql_tree.specs.Exprs.{Expr}
-use Rattle.sparql_symbol.specs.declared.symbol.Shape.TheVariants as s
-use Rattle.sparql_symbol.specs.declared.symbol.Symbol.{Symbol}
-use Rattle.sparql_symbol.specs.Prologue.{NoDeclaration, ended, no_prefixes}
-use Rattle.sparql_symbol.specs.Refusals.{AreSymbols}
-use Rattle.sparql_symbol.specs.Symbols.{Lexeme, Prefixes, lexemes, symbol, bare, other, IsSymbolOf, AreSymbolsOf}
-use Rattle.sparql_symbol.specs.Unsupported.{deepest}
-use Rattle.sparql_symbol.specs.Written.{written}
+use Rattle.sparql_tree.specs.declared.symbol.Shape.TheVariants as s
+use Rattle.sparql_tree.specs.declared.symbol.Symbol.{Symbol}
+use Rattle.sparql_tree.specs.Prologue.{NoDeclaration, ended, no_prefixes}
+use Rattle.sparql_tree.specs.Refusals.{AreSymbols}
+use Rattle.sparql_tree.specs.Symbols.{Lexeme, Prefixes, lexemes, symbol, bare, other, IsSymbolOf, AreSymbolsOf}
+use Rattle.sparql_tree.specs.Unsupported.{deepest}
 use Rattle.sparql_symbol.proofs.Judged.{tokens-of, text-lexemes}
 use Rattle.sparql_symbol.proofs.Readings.{readings-of}
-use Rattle.sparql_grammar.specs.Symbols.{is}
-use Rattle.sparql_grammar.specs.Groups.{IsConstraint, constraint}
+use Rattle.sparql_tree.specs.Heads.{is}
+use Rattle.sparql_tree.specs.GroupPatterns.{IsConstraint, constraint}
 use Rattle.sparql_grammar.proofs.GroupLaws.{constraint-finds}
 use Rattle.sparql_print.specs.ExprText.{expr_text, in_parens}
 use Rattle.sparql_print.specs.OfTrees.{IsOfTree}
@@ -89,17 +88,14 @@ no_name ls ss h word name iri rest d e k =
     go (t ∷ u ∷ ss) p q = both u p.1.0 q.1.0
 
 pub within-limits : (aggregates : Bool) (text : List ℕ) (a : Expr) → (h : SpellsConstraint aggregates text a) → length text ≤ 262144
-    → deepest (lexemes text h.ts) ≤ 256 → written h.symbols ≤ 16777216 → AreSymbols text h.symbols
-within-limits aggregates text a h small shallow fits = record {
-  spelled = record {
-    ls = lexemes text h.ts;
-    tokens = tokens-of text h.ts small h.tokens;
-    answered = h.answered false false;
-    shallow = shallow;
-    declarations = [];
-    rest = lexemes text h.ts;
-    prologue = ended (no_name (lexemes text h.ts) h.symbols h.are_symbols);
-    are_symbols = h.are_symbols no_prefixes;
-  };
-  fits = fits;
+    → deepest (lexemes text h.ts) ≤ 256 → AreSymbols text h.symbols
+within-limits aggregates text a h small shallow = record {
+  ls = lexemes text h.ts;
+  tokens = tokens-of text h.ts small h.tokens;
+  answered = h.answered false false;
+  shallow = shallow;
+  declarations = [];
+  rest = lexemes text h.ts;
+  prologue = ended (no_name (lexemes text h.ts) h.symbols h.are_symbols);
+  are_symbols = h.are_symbols no_prefixes;
 }

@@ -7,10 +7,10 @@ use Rattle.term_core.specs.declared.term.Term.TheVariants as terms
 use Rattle.sparql_tree.specs.Exprs.{Expr, Var, Const, Or, And, Not, Plus, Minus, Compare, OneOf, Sum, Product, Call, Aggregate, AggregateAll, Exprs, EndOfExprs, ThenExpr, Operands, EndOfOperands, ThenOperand}
 use Rattle.sparql_tree.specs.declared.words.CompareOp.{CompareOp}
 use Rattle.sparql_tree.specs.declared.words.CompareOp.TheVariants as ops
-use Rattle.sparql_symbol.specs.declared.symbol.Shape.{Shape}
-use Rattle.sparql_symbol.specs.declared.symbol.Shape.TheVariants as s
-use Rattle.sparql_symbol.specs.declared.symbol.Symbol.{Symbol}
-use Rattle.sparql_symbol.specs.Symbols.{symbol, bare}
+use Rattle.sparql_tree.specs.declared.symbol.Shape.{Shape}
+use Rattle.sparql_tree.specs.declared.symbol.Shape.TheVariants as s
+use Rattle.sparql_tree.specs.declared.symbol.Symbol.{Symbol}
+use Rattle.sparql_tree.specs.Symbols.{symbol, bare}
 
 -- what stands behind a string's quotes, before the rest: a tag, or ^^ and a datatype, which the one of plain strings lacks
 abbrev pub kind_symbols : List ℕ → List ℕ → List Symbol → List Symbol

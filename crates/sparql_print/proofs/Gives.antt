@@ -9,9 +9,9 @@ use Rattle.term_core.specs.Tokens as tokens
 use Rattle.term_core.specs.declared.token.Kind.{Kind}
 use Rattle.term_core.specs.declared.token.Kind.TheVariants as kinds
 use Rattle.term_core.specs.declared.token.Token.{Token}
-use Rattle.sparql_symbol.specs.declared.symbol.Symbol.{Symbol}
-use Rattle.sparql_symbol.specs.Symbols.{Prefixes, Lexeme, lexemes, IsSymbolOf, AreSymbolsOf}
-use Rattle.sparql_symbol.specs.Unsupported.{before, is_unsupported_of, before_next, first_unsupported_from}
+use Rattle.sparql_tree.specs.declared.symbol.Symbol.{Symbol}
+use Rattle.sparql_tree.specs.Symbols.{Prefixes, Lexeme, lexemes, IsSymbolOf, AreSymbolsOf}
+use Rattle.sparql_tree.specs.Unsupported.{before, is_unsupported_of, before_next, first_unsupported_from}
 use Rattle.sparql_print.proofs.Separate.{Separate}
 
 -- whatever came before, the token is answered

@@ -12,9 +12,9 @@ use Rattle.sparql_lex.specs.declared.state.State.TheVariants as states
 use Rattle.sparql_lex.specs.Steps.{step}
 use Rattle.sparql_lex.proofs.Reading.{reads}
 use Rattle.sparql_lex.proofs.KindStates.{read-token}
-use Rattle.sparql_symbol.specs.declared.symbol.Shape.TheVariants as s
-use Rattle.sparql_symbol.specs.declared.symbol.Symbol.{Symbol}
-use Rattle.sparql_symbol.specs.Symbols.{symbol, bare}
+use Rattle.sparql_tree.specs.declared.symbol.Shape.TheVariants as s
+use Rattle.sparql_tree.specs.declared.symbol.Symbol.{Symbol}
+use Rattle.sparql_tree.specs.Symbols.{symbol, bare}
 use Rattle.sparql_print.proofs.ExprSymbols.{term_symbols}
 use Rattle.sparql_print.specs.Spelled.{IsConstant}
 use Rattle.sparql_print.proofs.Separate.{Separate, longest-by}

@@ -9,7 +9,7 @@ use Rattle.term_core.specs.Names.{has_scheme, is_scheme}
 use Rattle.term_core.specs.Spelling.{IsSpelledIri}
 use Rattle.term_core.specs.Terminals.{is_local_escape, is_local_part, AreLocalParts, no_part, part, dot, percent, backslash, IsLocal}
 use Rattle.sparql_lex.proofs.Bools.{both, either, false_of, among, all-append}
-use Rattle.sparql_symbol.specs.Symbols.{unescaped}
+use Rattle.sparql_tree.specs.Symbols.{unescaped}
 use Rattle.nt_text.proofs.SpelledTerms.{scalars_parts}
 use Rattle.nt_text.proofs.WrittenText.{text_both}
 

@@ -14,12 +14,12 @@ use Rattle.sparql_lex.specs.declared.state.State.TheVariants as states
 use Rattle.sparql_lex.specs.Steps.{step}
 use Rattle.sparql_lex.proofs.Reading.{reads}
 use Rattle.sparql_lex.proofs.KindStates.{read-token}
-use Rattle.sparql_symbol.specs.declared.symbol.Shape.{Shape}
-use Rattle.sparql_symbol.specs.declared.symbol.Shape.TheVariants as s
-use Rattle.sparql_symbol.specs.declared.symbol.Symbol.{Symbol}
-use Rattle.sparql_symbol.specs.Symbols.{bare, word_symbol}
-use Rattle.sparql_symbol.specs.Words.{is_word, is_unsupported_word, sign_shape}
-use Rattle.sparql_symbol.specs.Unsupported.{is_bracket}
+use Rattle.sparql_tree.specs.declared.symbol.Shape.{Shape}
+use Rattle.sparql_tree.specs.declared.symbol.Shape.TheVariants as s
+use Rattle.sparql_tree.specs.declared.symbol.Symbol.{Symbol}
+use Rattle.sparql_tree.specs.Symbols.{bare, word_symbol}
+use Rattle.sparql_tree.specs.Words.{is_word, is_unsupported_word, sign_shape}
+use Rattle.sparql_tree.specs.Unsupported.{is_bracket}
 use Rattle.nt_text.proofs.TagLaws.{is_small}
 use Rattle.nt_text.proofs.WrittenText.{text_small, text_both}
 use Rattle.sparql_print.specs.ExprText.{spaced, op_text, function_text, aggregate_text, sum_sign, product_sign}

@@ -2,11 +2,11 @@
 use Rattle.std.proofs.Common.{Bool, true, false, cond, List, [], ◌∷◌, ◌++◌, sym, subst}
 use Rattle.sparql_tree.specs.Exprs.{Expr}
 use Rattle.sparql_tree.specs.Groups.{Group, Element, elements, groups, SelectItem, GroupKey, OrderKey, Query}
-use Rattle.sparql_symbol.specs.declared.symbol.Symbol.{Symbol}
-use Rattle.sparql_grammar.specs.Expressions.{IsExpr, called, aggregated, variable}
-use Rattle.sparql_grammar.specs.Groups.{IsConstraint, constraint, constraint_call, constraint_aggregate, IsPoint, no_point, point, IsGroup, group, GroupTail, group_end, group_more, IsElement, union, optional, without, filter, bind, values, UnionTail, union_end, union_more}
-use Rattle.sparql_grammar.specs.Triples.{IsTriples, no_triples, triples}
-use Rattle.sparql_grammar.specs.Queries.{IsDistinctness, distinct_rows, reduced_rows, all_rows, IsItem, item_variable, item_value, ItemTail, item_end, item_more, IsSelection, select_star, select_items, IsWhere, where_word, no_where, IsKey, key_variable, key_call, key_value, key_named, KeyTail, key_end, key_more, IsGrouping, no_grouping, grouping, HavingTail, having_end, having_more, IsHaving, no_having, having, IsOrderKey, ascending, descending, order_constraint, order_variable, OrderTail, order_end, order_more, IsOrdering, no_ordering, ordering, IsSelect, select, IsQuery, repeats, variables, with_item, with_items}
+use Rattle.sparql_tree.specs.declared.symbol.Symbol.{Symbol}
+use Rattle.sparql_tree.specs.Expressions.{IsExpr, called, aggregated, variable}
+use Rattle.sparql_tree.specs.GroupPatterns.{IsConstraint, constraint, constraint_call, constraint_aggregate, IsPoint, no_point, point, IsGroup, group, GroupTail, group_end, group_more, IsElement, union, optional, without, filter, bind, values, UnionTail, union_end, union_more}
+use Rattle.sparql_tree.specs.Triples.{IsTriples, no_triples, triples}
+use Rattle.sparql_tree.specs.Queries.{IsDistinctness, distinct_rows, reduced_rows, all_rows, IsItem, item_variable, item_value, ItemTail, item_end, item_more, IsSelection, select_star, select_items, IsWhere, where_word, no_where, IsKey, key_variable, key_call, key_value, key_named, KeyTail, key_end, key_more, IsGrouping, no_grouping, grouping, HavingTail, having_end, having_more, IsHaving, no_having, having, IsOrderKey, ascending, descending, order_constraint, order_variable, OrderTail, order_end, order_more, IsOrdering, no_ordering, ordering, IsSelect, select, IsQuery, repeats, variables, with_item, with_items}
 use Rattle.sparql_print.specs.SpelledSymbols.{AreSpelledSymbols}
 use Rattle.sparql_print.specs.QueryExpressions.{Fact, EachOfGroup, EachOfElements, EachOfGroups, EachOfElement, EachOfValue, EachOfItems, EachOfKeys, EachOfConditions, EachOfOrder, EachExpression}
 use Rattle.sparql_print.proofs.ReadsBack.{expr-of}

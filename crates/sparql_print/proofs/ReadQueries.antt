@@ -1,7 +1,7 @@
 -- Each expression of a query that is read of a text reads back when it is printed.
 use Rattle.std.proofs.Common.{ℕ, List}
 use Rattle.sparql_tree.specs.Groups.{Query}
-use Rattle.sparql_grammar.specs.Trees.{IsTree}
+use Rattle.sparql_tree.specs.Trees.{IsTree}
 use Rattle.sparql_print.specs.Constraints.{ReadsBack}
 use Rattle.sparql_print.specs.QueryExpressions.{EachExpression}
 use Rattle.sparql_print.proofs.Constraints.{text-spells}

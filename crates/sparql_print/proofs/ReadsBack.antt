@@ -11,14 +11,14 @@ use Rattle.sparql_tree.specs.declared.words.CompareOp.{CompareOp}
 use Rattle.sparql_tree.specs.declared.words.CompareOp.TheVariants as ops
 use Rattle.sparql_tree.specs.declared.words.Function.{Function}
 use Rattle.sparql_tree.specs.declared.words.Function.TheVariants as functions
-use Rattle.sparql_symbol.specs.declared.symbol.Shape.TheVariants as s
-use Rattle.sparql_symbol.specs.declared.symbol.Symbol.{Symbol}
-use Rattle.sparql_symbol.specs.Symbols as symbols
-use Rattle.sparql_grammar.specs.Parser.{head}
-use Rattle.sparql_grammar.specs.Symbols.{is, holds}
-use Rattle.sparql_grammar.specs.Terms as terms_of
-use Rattle.sparql_grammar.specs.Terms.{IsTerm}
-use Rattle.sparql_grammar.specs.Expressions.{IsDistinct, distinct, not_distinct, IsExpr, or, OrTail, or_end, or_more, IsAnd, and, AndTail, and_end, and_more, IsRel, rel_one, rel_compare, rel_in, rel_not_in, IsList, list_none, list_some, ListTail, list_end, list_more, IsSum, sum, SumTail, sum_end, sum_plus, sum_minus, IsProduct, product, ProductTail, product_end, product_times, product_over, IsUnary, bare, not, plus, minus, IsAtom, constant, variable, parens, called, aggregated, call, bound, IsAggregate, count_all, aggregate, takes, op_of, begins_number}
+use Rattle.sparql_tree.specs.declared.symbol.Shape.TheVariants as s
+use Rattle.sparql_tree.specs.declared.symbol.Symbol.{Symbol}
+use Rattle.sparql_tree.specs.Symbols as symbols
+use Rattle.sparql_tree.specs.Heads.{head}
+use Rattle.sparql_tree.specs.Heads.{is, holds}
+use Rattle.sparql_tree.specs.Terms as terms_of
+use Rattle.sparql_tree.specs.Terms.{IsTerm}
+use Rattle.sparql_tree.specs.Expressions.{IsDistinct, distinct, not_distinct, IsExpr, or, OrTail, or_end, or_more, IsAnd, and, AndTail, and_end, and_more, IsRel, rel_one, rel_compare, rel_in, rel_not_in, IsList, list_none, list_some, ListTail, list_end, list_more, IsSum, sum, SumTail, sum_end, sum_plus, sum_minus, IsProduct, product, ProductTail, product_end, product_times, product_over, IsUnary, bare, not, plus, minus, IsAtom, constant, variable, parens, called, aggregated, call, bound, IsAggregate, count_all, aggregate, takes, op_of, begins_number}
 use Rattle.sparql_print.specs.OfTrees.{IsOfTree}
 use Rattle.sparql_print.proofs.ExprSymbols.{expr_symbols, joined_symbols, more_symbols, operand_symbols, term_symbols, op_shape, in_symbols, sum_shape, product_shape, distinct_symbols}
 use Rattle.sparql_print.specs.Spelled.{AreSpelledIn, AreSpelledInAll, AreSpelledInOperands, IsConstant}

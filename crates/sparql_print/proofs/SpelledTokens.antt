@@ -9,11 +9,11 @@ use Rattle.term_core.specs.Terminals.{IsIri, IsPrefixedName, IsVariable, IsShort
 use Rattle.term_core.specs.Terminals as long
 use Rattle.term_core.specs.declared.token.Kind.{Kind}
 use Rattle.term_core.specs.declared.token.Kind.TheVariants as kinds
-use Rattle.sparql_symbol.specs.declared.symbol.Symbol.{Symbol}
-use Rattle.sparql_symbol.specs.Prologue.{Declaration, IsPrologue, ended, declared, IsAbsolute, no_prefixes, with_declaration, prefixes_over, prefixes_of}
-use Rattle.sparql_symbol.specs.Refusals.{AreSymbols}
-use Rattle.sparql_symbol.specs.Symbols.{Lexeme, Prefixes, iri_symbol, name_symbol, unescaped, word_symbol, IsStringSymbol, IsSymbolOf, AreSymbolsOf}
-use Rattle.sparql_symbol.specs.Words.{is_word, word_shape, sign_shape}
+use Rattle.sparql_tree.specs.declared.symbol.Symbol.{Symbol}
+use Rattle.sparql_tree.specs.Prologue.{Declaration, IsPrologue, ended, declared, IsAbsolute, no_prefixes, with_declaration, prefixes_over, prefixes_of}
+use Rattle.sparql_tree.specs.Refusals.{AreSymbols}
+use Rattle.sparql_tree.specs.Symbols.{Lexeme, Prefixes, iri_symbol, name_symbol, unescaped, word_symbol, IsStringSymbol, IsSymbolOf, AreSymbolsOf}
+use Rattle.sparql_tree.specs.Words.{is_word, word_shape, sign_shape}
 use Rattle.sparql_symbol.proofs.Frames.{scalars-front, scalars-behind}
 use Rattle.sparql_symbol.proofs.Judged.{text-lexemes, rest-lexemes}
 use Rattle.sparql_symbol.proofs.Standing.{AreLexemes}
@@ -146,7 +146,6 @@ over-iris prefixes [] i h = i
 over-iris prefixes (d ∷ ds) i h = over-iris (with_declaration prefixes d) ds (with-iris prefixes d i h.0) h.1
 
 pub text-spelled : (text : List ℕ) (ss : List Symbol) → AreSymbols text ss → AreSpelledSymbols ss
-text-spelled text ss answer =
-    let h = answer.spelled in
+text-spelled text ss h =
     let all : AreLexemes h.ls = subst AreLexemes (sym h.tokens.spelled) (text-lexemes text h.tokens.ts h.tokens.tokens) in
     symbols-spelled (prefixes_of h.declarations) h.rest ss (over-iris no_prefixes h.declarations (λ prefix. tt) (declarations-spelled h.prologue all)) (rest-lexemes h.prologue all) h.are_symbols

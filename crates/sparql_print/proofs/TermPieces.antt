@@ -16,9 +16,9 @@ use Rattle.sparql_lex.specs.declared.state.Quoted.TheVariants as quoted
 use Rattle.sparql_lex.specs.declared.state.Body.TheVariants as bodies
 use Rattle.sparql_lex.specs.Steps.{step}
 use Rattle.sparql_lex.proofs.Reading.{reads}
-use Rattle.sparql_symbol.specs.declared.symbol.Shape.TheVariants as s
-use Rattle.sparql_symbol.specs.declared.symbol.Symbol.{Symbol}
-use Rattle.sparql_symbol.specs.Symbols.{symbol, iri_symbol, IsStringSymbol}
+use Rattle.sparql_tree.specs.declared.symbol.Shape.TheVariants as s
+use Rattle.sparql_tree.specs.declared.symbol.Symbol.{Symbol}
+use Rattle.sparql_tree.specs.Symbols.{symbol, iri_symbol, IsStringSymbol}
 use Rattle.nt_text.proofs.Cut.{scheme_encoded}
 use Rattle.nt_text.proofs.EscapeLaws.{all_parts}
 use Rattle.nt_text.proofs.TagLaws.{tag_small, tag_encoded}

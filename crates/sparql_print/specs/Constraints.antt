@@ -3,10 +3,10 @@ use Rattle.std.specs.Prelude.{◌≡◌, ℕ, Bool, List, [], None}
 use Rattle.term_core.specs.Tokens.{Tokens}
 use Rattle.term_core.specs.declared.token.Token.{Token}
 use Rattle.sparql_tree.specs.Exprs.{Expr}
-use Rattle.sparql_symbol.specs.declared.symbol.Symbol.{Symbol}
-use Rattle.sparql_symbol.specs.Symbols.{Prefixes, lexemes, AreSymbolsOf}
-use Rattle.sparql_symbol.specs.Unsupported.{before, first_unsupported_from}
-use Rattle.sparql_grammar.specs.Groups.{IsConstraint}
+use Rattle.sparql_tree.specs.declared.symbol.Symbol.{Symbol}
+use Rattle.sparql_tree.specs.Symbols.{Prefixes, lexemes, AreSymbolsOf}
+use Rattle.sparql_tree.specs.Unsupported.{before, first_unsupported_from}
+use Rattle.sparql_tree.specs.GroupPatterns.{IsConstraint}
 use Rattle.sparql_print.specs.ExprText.{expr_text, in_parens}
 
 -- the text has tokens; whatever came before it, each is answered; whatever prefixes are declared, they have these symbols, which spell the constraint

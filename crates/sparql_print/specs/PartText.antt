@@ -6,7 +6,7 @@ use Rattle.term_core.specs.declared.term.Term.{Term}
 use Rattle.term_core.specs.declared.pattern.Pattern.{Pattern}
 use Rattle.term_core.specs.declared.pattern.Place.{Place}
 use Rattle.term_core.specs.declared.pattern.Place.TheVariants as places
-use Rattle.sparql_tree.specs.Operators.{Algebra, Bgp, Join, LeftJoin, Minus, Union, Filter, Extend, Table}
+use Rattle.sparql_tree.specs.Algebra.{Algebra, Bgp, Join, LeftJoin, Minus, Union, Filter, Extend, Table}
 use Rattle.sparql_print.specs.ExprText.{spaced, in_parens, expr_text}
 
 -- a text in braces (SPARQL 1.1 19.8, GroupGraphPattern)

@@ -3,7 +3,7 @@ use Rattle.std.specs.Prelude.{◌≡◌, ℕ, true, List, ◌∷◌}
 use Rattle.term_core.specs.Characters.{AreAll, IsTextOf}
 use Rattle.term_core.specs.Mappings.{Name}
 use Rattle.term_core.specs.Spelling.{IsSpelled}
-use Rattle.term_core.specs.Terminals.{is_label_first, is_variable_part}
+use Rattle.term_core.specs.Terminals.{is_query_label_first, is_variable_part}
 use Rattle.sparql_tree.specs.Exprs.{Expr, Var, Const, Or, And, Not, Plus, Minus, Compare, OneOf, Sum, Product, Call, Aggregate, AggregateAll, Exprs, EndOfExprs, ThenExpr, Operands, EndOfOperands, ThenOperand}
 use Rattle.term_core.specs.declared.term.Term.{Term}
 use Rattle.term_core.specs.declared.term.Term.TheVariants as terms
@@ -13,7 +13,7 @@ pub record IsSpelledName (name : Name) : Type 0 where
   pub first : ℕ
   pub more : List ℕ
   pub is_text : IsTextOf (first ∷ more) name
-  pub is_first : is_label_first first ≡ true
+  pub is_first : is_query_label_first first ≡ true
   pub are_parts : AreAll is_variable_part more
 
 -- an IRI or a literal that can be written; a blank node is no expression (SPARQL 1.1 19.8, PrimaryExpression)

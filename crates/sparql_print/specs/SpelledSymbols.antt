@@ -2,9 +2,9 @@
 use Rattle.std.specs.Prelude.{ℕ, List, [], ◌∷◌}
 use Rattle.std.specs.Str.{IsUtf8}
 use Rattle.term_core.specs.Spelling.{IsSpelledIri, IsSpelledTag}
-use Rattle.sparql_symbol.specs.declared.symbol.Shape.{Shape}
-use Rattle.sparql_symbol.specs.declared.symbol.Shape.TheVariants as shapes
-use Rattle.sparql_symbol.specs.declared.symbol.Symbol.{Symbol}
+use Rattle.sparql_tree.specs.declared.symbol.Shape.{Shape}
+use Rattle.sparql_tree.specs.declared.symbol.Shape.TheVariants as shapes
+use Rattle.sparql_tree.specs.declared.symbol.Symbol.{Symbol}
 use Rattle.sparql_print.specs.Spelled.{IsSpelledName}
 
 -- the value of a symbol of this shape; shapes without a value that an expression has may have any (SPARQL 1.1, 19.8, PrimaryExpression)

@@ -3,13 +3,12 @@
 ghost use Rattle.std.specs.Prelude.{◌≡◌, ◌≤◌, ℕ, Bool, List, length};
 ghost use Rattle.sparql_tree.specs.Exprs.{Expr};
 ghost use Rattle.sparql_tree.specs.Groups.{Query};
-ghost use Rattle.sparql_symbol.specs.declared.symbol.Symbol.{Symbol};
-ghost use Rattle.sparql_symbol.specs.Refusals.{AreSymbols};
-ghost use Rattle.sparql_symbol.specs.Symbols.{lexemes};
-ghost use Rattle.sparql_symbol.specs.Unsupported.{deepest};
-ghost use Rattle.sparql_symbol.specs.Written.{written};
-ghost use Rattle.sparql_grammar.specs.Expressions.{IsExpr};
-ghost use Rattle.sparql_grammar.specs.Trees as grammar;
+ghost use Rattle.sparql_tree.specs.declared.symbol.Symbol.{Symbol};
+ghost use Rattle.sparql_tree.specs.Refusals.{AreSymbols};
+ghost use Rattle.sparql_tree.specs.Symbols.{lexemes};
+ghost use Rattle.sparql_tree.specs.Unsupported.{deepest};
+ghost use Rattle.sparql_tree.specs.Expressions.{IsExpr};
+ghost use Rattle.sparql_tree.specs.Trees as grammar;
 ghost use Rattle.sparql_print.specs.Constraints.{SpellsConstraint, ReadsBack};
 ghost use Rattle.sparql_print.specs.OfTrees.{IsOfTree};
 ghost use Rattle.sparql_print.specs.QueryExpressions.{EachExpression};
@@ -29,11 +28,11 @@ pub fn one_constraint()
         → SpellsConstraint aggregates text a → SpellsConstraint aggregates text b → a ≡ b }
 {}
 
-/// A text that spells a constraint is not refused, unless for its size, its nesting or what it writes out,
-/// and its symbols are those of the constraint.
+/// A text that spells a constraint is not refused, unless for its size or its nesting, and its symbols are
+/// those of the constraint.
 pub fn constraints_have_symbols()
     ensures { (aggregates : Bool) (text : List ℕ) (a : Expr) → (h : SpellsConstraint aggregates text a)
-        → length text ≤ 262144 → deepest (lexemes text h.ts) ≤ 256 → written h.symbols ≤ 16777216
+        → length text ≤ 262144 → deepest (lexemes text h.ts) ≤ 256
         → AreSymbols text h.symbols }
 {}
 

@@ -3,11 +3,7 @@
 
 pub mod law;
 mod part;
-#[cfg(test)]
-mod part_tests;
 mod printing;
-#[cfg(test)]
-mod tests;
 
 pub use part::print_part;
 pub use printing::print_expr;

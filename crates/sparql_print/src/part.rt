@@ -2,8 +2,8 @@
 
 ghost use Rattle.std.specs.Prelude.{◌≡◌, ◌++◌, ◌∷◌, [], true, flat_map, codes, OnOk, IfOk, string_bytes};
 ghost use Rattle.term_core.specs.Texts.{term_text};
-ghost use Rattle.sparql_tree.specs.Operators as tree;
-ghost use Rattle.sparql_tree.specs.Operators.{is_server};
+ghost use Rattle.sparql_tree.specs.Algebra as tree;
+ghost use Rattle.sparql_tree.specs.Algebra.{is_server};
 ghost use Rattle.sparql_tree.specs.AlgebraTrees.{algebra_of};
 ghost use Rattle.sparql_tree.specs.ExprTrees.{tree_of};
 ghost use Rattle.sparql_print.specs.ExprText.{expr_text};

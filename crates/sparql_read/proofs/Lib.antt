@@ -1,9 +1,3 @@
-pub mod Parts
-pub mod Placed
-pub mod Judged
-pub mod Firsts
-pub mod Elements
+pub mod Laws
+pub mod Texts
 pub mod Refused
-pub mod Numbered
-pub mod Named
-pub mod Alone

@@ -4,11 +4,11 @@ use Rattle.term_core.specs.Mappings.{Name}
 use Rattle.sparql_tree.specs.Groups.{Query}
 use Rattle.sparql_tree.specs.declared.fault.QueryFault.{QueryFault}
 use Rattle.sparql_tree.specs.declared.fault.QueryFault.TheVariants as faults
-use Rattle.sparql_grammar.specs.Trees.{IsTree, HasNoTree, WhyNoTree}
-use Rattle.sparql_grammar.proofs.Texts as grammar
-use Rattle.sparql_read.specs.Accepted.{IsAccepted, IsBroken, IsRefused, WhyRefused}
-use Rattle.sparql_read.specs.Breaches.{breaches, first_name}
-use Rattle.sparql_read.proofs.Firsts.{first_none}
+use Rattle.sparql_tree.specs.Trees.{IsTree, HasNoTree, WhyNoTree}
+use Rattle.sparql_read.proofs.Texts as grammar
+use Rattle.sparql_tree.specs.Accepted.{IsAccepted, IsBroken, IsRefused, WhyRefused}
+use Rattle.sparql_tree.specs.Breaches.{breaches, first_name}
+use Rattle.sparql_scope.proofs.Firsts.{first_none}
 
 pub one_query : (text : List ℕ) (a b : Query) → IsAccepted text a → IsAccepted text b → a ≡ b
 one_query text a b h k = grammar.one-tree text a b h.tree k.tree

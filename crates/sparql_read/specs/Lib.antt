@@ -1,7 +1,0 @@
-pub mod Scopes
-pub mod Breaches
-pub mod Parts
-pub mod Places
-pub mod Numbers
-pub mod Named
-pub mod Accepted

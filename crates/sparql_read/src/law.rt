@@ -1,9 +1,45 @@
 //! Laws of the reader. Each is the contract of a function that does nothing.
 
 ghost use Rattle.std.specs.Prelude.{◌≡◌, ◌⊎◌, ℕ, List};
+ghost use Rattle.sparql_tree.specs.Accepted.{IsAccepted, IsRefused};
 ghost use Rattle.sparql_tree.specs.Groups.{Query};
+ghost use Rattle.sparql_tree.specs.Refusals as front;
+ghost use Rattle.sparql_tree.specs.Refusals.{AreSymbols};
+ghost use Rattle.sparql_tree.specs.Trees.{IsTree, HasNoTree};
 ghost use Rattle.sparql_tree.specs.declared.fault.QueryFault.{QueryFault};
-ghost use Rattle.sparql_read.specs.Accepted.{IsAccepted, IsRefused};
+ghost use Rattle.sparql_tree.specs.declared.symbol.Symbol.{Symbol};
+
+/// A text has at most one list of symbols.
+pub fn one_list_of_symbols()
+    ensures { (text : List ℕ) (a b : List Symbol) → AreSymbols text a → AreSymbols text b → a ≡ b }
+{}
+
+/// A text has at most one first cause that it has no symbols.
+pub fn one_cause_of_no_symbols()
+    ensures { (text : List ℕ) (a b : QueryFault) → front.IsRefused text a → front.IsRefused text b → a ≡ b }
+{}
+
+/// A text never has symbols and a cause of a refusal, and has always one of both.
+pub fn symbols_or_refusal()
+    ensures not_both { (text : List ℕ) (symbols : List Symbol) (fault : QueryFault) → AreSymbols text symbols → front.IsRefused text fault → ⊥ }
+    ensures always { (text : List ℕ) → ((symbols : List Symbol) × AreSymbols text symbols) ⊎ ((fault : QueryFault) × front.IsRefused text fault) }
+{}
+
+/// A text has at most one tree.
+pub fn one_tree()
+    ensures { (text : List ℕ) (a b : Query) → IsTree text a → IsTree text b → a ≡ b }
+{}
+
+/// A text has at most one first cause that it has no tree.
+pub fn one_cause_of_no_tree()
+    ensures { (text : List ℕ) (a b : QueryFault) → HasNoTree text a → HasNoTree text b → a ≡ b }
+{}
+
+/// A text never has a tree and a cause of a refusal, and has always one of both.
+pub fn tree_or_refusal()
+    ensures not_both { (text : List ℕ) (query : Query) (fault : QueryFault) → IsTree text query → HasNoTree text fault → ⊥ }
+    ensures always { (text : List ℕ) → ((query : Query) × IsTree text query) ⊎ ((fault : QueryFault) × HasNoTree text fault) }
+{}
 
 /// A text is of at most one accepted query.
 pub fn one_query()

@@ -1,18 +1,11 @@
-//! Queries that keep the rules on scope, and their reader.
+//! The reader of queries: tokens, symbols, trees and scopes, joined.
 #![tactic(auto)]
 
-mod breach;
-mod exprs;
-mod grouping;
-mod judge;
 pub mod law;
-mod marks;
-mod names;
-mod places;
-#[cfg(test)]
-mod tests;
+mod query;
 mod text;
-mod walks;
+mod tree;
 
-pub use breach::first_breach;
-pub use text::read_query;
+pub use query::read_query;
+pub use text::symbols;
+pub use tree::read_tree;

@@ -1,32 +1,42 @@
-//! The query of a text.
+//! The symbols of a query's text.
 
 ghost use Rattle.std.specs.Prelude.{IfOk, IfErr};
-ghost use Rattle.sparql_tree.specs.GroupTrees.{query_of};
-ghost use Rattle.sparql_read.specs.Accepted.{IsAccepted, WhyRefused};
+ghost use Rattle.sparql_tree.specs.Refusals.{AreSymbols, WhyNone};
 
-use crate::breach::first_breach;
-use sparql_grammar::read_tree;
-use sparql_tree::{Query, QueryFault};
+use sparql_lex::{LexFault, tokens};
+use sparql_symbol::symbols_of;
+use sparql_tree::{QueryFault, Size, Symbol};
 use std::alloc::Global;
+use term_core::Items;
 
-/// The query of a text (SPARQL 1.1, section 19.8), if the scopes of its variables and labels keep the
-/// rules of the language (sections 10.2, 11.4, 18.2.1 and 19.6).
+/// The most bytes that a query's text may have.
+const TEXT_LIMIT: usize = 262_144;
+
+/// What the tokens of a query text are to the grammar, in order, behind the prologue.
 ///
-/// Of the causes of a refusal the first in this order is given: those of `sparql_grammar::read_tree`,
-/// which are `TooLarge(Size::Text)`, `Lex`, `Unsupported`, `TooLarge(Size::Nesting)`, `TooLarge(Size::Written)`
-/// and `NotAQuery`; then `Scope`, where a rule is broken, with the name at the first place in the text that
-/// breaks one.
+/// Of the causes of a refusal the first in this order is given: `TooLarge(Size::Text)` where the text has
+/// more than 262,144 bytes; `Lex` as `sparql_lex::tokens` says; `Unsupported` and `TooLarge(Size::Nesting)`
+/// as `sparql_symbol::symbols_of` says. `NotAQuery` and `Scope` do not come from here.
 ///
-/// The time is linear in the text and in the texts that the tree holds, each name its whole IRI and each
-/// triple its own subject, which are bounded by what a query may write out; but for look-ups of prefixes,
-/// variables and labels in a tree.
-pub fn read_query(alloc: Global, text: &[u8]) -> Result<Query, QueryFault>
-    ensures found { IfOk result (λ query. IsAccepted text.now (query_of query)) }
-    ensures why { IfErr result (WhyRefused text.now) }
+/// The time is linear in the bytes that are read and written out, but for the look-up of prefixes in a map.
+pub fn symbols(alloc: Global, text: &[u8]) -> Result<Items<Symbol>, QueryFault>
+    ensures found { IfOk result (AreSymbols text.now) }
+    ensures why { IfErr result (WhyNone text.now) }
 {
-    let query = read_tree(alloc, text)?;
-    match first_breach(alloc, &query)? {
-        None => Ok(query),
-        Some(variable) => Err(QueryFault::Scope { variable }),
+    if text.len() > TEXT_LIMIT {
+        return Err(QueryFault::TooLarge(Size::Text));
+    }
+    let written = match str::from_utf8(text) {
+        Ok(written) => written,
+        Err(fault) => {
+            return Err(QueryFault::Lex {
+                at: fault.valid_up_to(),
+            });
+        }
+    };
+    match tokens(alloc, text) {
+        Ok(tokens) => symbols_of(alloc, written, tokens.as_slice()),
+        Err(LexFault::Lex { at }) => Err(QueryFault::Lex { at }),
+        Err(LexFault::Memory) => Err(QueryFault::Memory),
     }
 }

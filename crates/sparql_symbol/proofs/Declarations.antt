@@ -7,9 +7,9 @@ use Rattle.term_core.specs.Names.{has_scheme}
 use Rattle.term_core.specs.Terminals.{IsToken, IsIri, IsPrefixedName}
 use Rattle.term_core.specs.declared.token.Kind.{Kind}
 use Rattle.term_core.specs.declared.token.Kind.TheVariants as kinds
-use Rattle.sparql_symbol.specs.Words.{is_word}
-use Rattle.sparql_symbol.specs.Symbols.{Lexeme}
-use Rattle.sparql_symbol.specs.Prologue.{Declaration, IsPrefixName, IsAbsolute, IsDeclaration, NoDeclaration, IsPrologue, ended, declared}
+use Rattle.sparql_tree.specs.Words.{is_word}
+use Rattle.sparql_tree.specs.Symbols.{Lexeme}
+use Rattle.sparql_tree.specs.Prologue.{Declaration, IsPrefixName, IsAbsolute, IsDeclaration, NoDeclaration, IsPrologue, ended, declared}
 use Rattle.sparql_symbol.specs.Reading.{is_prefix_word, prefix_before, prefix_at, declared_prefix, absolute_iri, declared_by, declaration_at, with_first, read_prologue, before_colon, behind_colon, iri_at}
 use Rattle.sparql_symbol.proofs.NameParts.{name-read}
 use Rattle.sparql_symbol.proofs.Readings.{iri-read}

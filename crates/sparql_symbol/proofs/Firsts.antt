@@ -4,9 +4,9 @@ use Rattle.std.specs.Prelude.{◌||◌}
 use Rattle.std.proofs.lemmas.Bool.{cases_lt}
 use Rattle.term_core.specs.declared.token.Kind.{Kind}
 use Rattle.term_core.specs.declared.token.Kind.TheVariants as kinds
-use Rattle.sparql_symbol.specs.declared.unsupported.Before.{Before}
-use Rattle.sparql_symbol.specs.Symbols.{Lexeme}
-use Rattle.sparql_symbol.specs.Unsupported.{before, before_next, is_unsupported_of, first_unsupported, first_unsupported_from, open_behind, deepest, deepest_from}
+use Rattle.sparql_tree.specs.Unsupported.{Before}
+use Rattle.sparql_tree.specs.Symbols.{Lexeme}
+use Rattle.sparql_tree.specs.Unsupported.{before, before_next, is_unsupported_of, first_unsupported, first_unsupported_from, open_behind, deepest, deepest_from}
 use Rattle.sparql_symbol.proofs.Nestings.{deepest-least}
 use Rattle.sparql_symbol.specs.Firsts.{is_select, has_select, is_count, ends_in_count, is_unsupported_behind, AreAnswered, FindsFirst, open_after, IsDeepest}
 

@@ -1,20 +1,16 @@
 -- Which answer a text has.
-use Rattle.std.proofs.Common.{◌≡◌, ◌∙◌, ◌≤◌, ℕ, false, nat_lt, List, [], ◌∷◌, None, length, IfOk, IfErr, Result, Ok, Err, refl, sym, ap, subst, arith}
+use Rattle.std.proofs.Common.{◌≡◌, ◌∙◌, ◌≤◌, ℕ, false, nat_lt, List, [], ◌∷◌, None, length, IfOk, Result, Ok, Err, refl, sym, ap, subst, arith}
 use Rattle.std.proofs.lemmas.Bool.Decides.{nat_tests}
-use Rattle.sparql_tree.specs.declared.fault.QueryFault.{QueryFault}
-use Rattle.sparql_tree.specs.declared.fault.QueryFault.TheVariants as faults
-use Rattle.sparql_tree.specs.declared.fault.Size.TheVariants as sizes
 use Rattle.term_core.specs.Tokens.{Tokens}
 use Rattle.term_core.specs.declared.token.Kind.{Kind}
 use Rattle.term_core.specs.declared.token.Kind.TheVariants as kinds
 use Rattle.term_core.specs.declared.token.Token.{Token}
-use Rattle.sparql_symbol.specs.declared.symbol.Symbol.{Symbol}
-use Rattle.sparql_symbol.specs.Symbols.{Lexeme, Prefixes, name_symbol, lexemes, AreSymbolsOf}
-use Rattle.sparql_symbol.specs.Prologue.{Declaration, IsPrologue, ended, declared, no_prefixes, prefixes_over, prefixes_of}
-use Rattle.sparql_symbol.specs.Reading.{AreRead, WhyUnread, WhyUnreadOf, before_colon, behind_colon, local_at, read_symbol, read_symbols, read_prologue}
-use Rattle.sparql_symbol.specs.Refusals.{AreTokensOf, Spells, AreSymbols, WhyNone}
-use Rattle.sparql_symbol.specs.Unsupported.{first_unsupported, deepest}
-use Rattle.sparql_symbol.specs.Written.{written}
+use Rattle.sparql_tree.specs.declared.symbol.Symbol.{Symbol}
+use Rattle.sparql_tree.specs.Symbols.{Lexeme, Prefixes, name_symbol, lexemes, AreSymbolsOf}
+use Rattle.sparql_tree.specs.Prologue.{Declaration, IsPrologue, ended, declared, no_prefixes, prefixes_over, prefixes_of}
+use Rattle.sparql_symbol.specs.Reading.{AreRead, before_colon, behind_colon, local_at, read_symbol, read_symbols, read_prologue}
+use Rattle.sparql_tree.specs.Refusals.{AreTokensOf, AreSymbols}
+use Rattle.sparql_tree.specs.Unsupported.{first_unsupported, deepest}
 use Rattle.sparql_symbol.proofs.Declarations.{prologue-sound}
 use Rattle.sparql_symbol.proofs.Prologues.{over-same}
 use Rattle.sparql_symbol.proofs.Readings.{readings-are}
@@ -36,7 +32,7 @@ not-less n h = grind (arith, nat_tests)
 
 -- what is read of a text's tokens are their symbols
 pub symbols-spelled : (text : List ℕ) (ts : List Token) (ss : List Symbol) → length text ≤ 262144 → Tokens text ts
-    → first_unsupported (lexemes text ts) ≡ None → nat_lt 256 (deepest (lexemes text ts)) ≡ false → AreRead (lexemes text ts) ss → Spells text ss
+    → first_unsupported (lexemes text ts) ≡ None → nat_lt 256 (deepest (lexemes text ts)) ≡ false → AreRead (lexemes text ts) ss → AreSymbols text ss
 symbols-spelled text ts ss small tokens answered shallow h =
     let ls = lexemes text ts in
     let lexemes' = text-lexemes text ts tokens in
@@ -74,36 +70,3 @@ pub behind-read : {E : Type 0} (r : Result (List Symbol) E) (f g : Prefixes) (ls
     → IfOk r (AreRead ls)
 behind-read (Ok ss) f g ls rest h e declares none = h ∙ behind-same f g ls rest e declares none
 behind-read (Err e) f g ls rest h same declares none = tt
-
-pub behind-unread : {A : Type 0} (r : Result A QueryFault) (f g : Prefixes) (ls rest : List Lexeme) → IfErr r (WhyUnread (read_symbols f rest))
-    → rest ≡ (read_prologue ls).1 → ((q : List ℕ) → f q ≡ prefixes_over g (read_prologue ls).0 q) → ((q : List ℕ) → g q ≡ None)
-    → IfErr r (WhyUnreadOf ls)
-behind-unread (Ok a) f g ls rest h e declares none = tt
-behind-unread (Err fault) f g ls rest h e declares none = subst (λ ss. WhyUnread ss fault) (behind-same f g ls rest e declares none) h
-
--- symbols that are read and fit are those of the text
-pub found-of : {E : Type 0} (text : List ℕ) (ts : List Token) (r : Result (List Symbol) E) → length text ≤ 262144 → Tokens text ts
-    → first_unsupported (lexemes text ts) ≡ None → nat_lt 256 (deepest (lexemes text ts)) ≡ false → IfOk r (AreRead (lexemes text ts))
-    → IfOk r (λ ss. written ss ≤ 16777216) → IfOk r (AreSymbols text)
-found-of text ts (Ok ss) small tokens answered shallow h k = record { spelled = symbols-spelled text ts ss small tokens answered shallow h; fits = k }
-found-of text ts (Err e) small tokens answered shallow h k = tt
-
--- why a text's symbols are not read is why the text has none
-why-fault : (text : List ℕ) (ts : List Token) (fault : QueryFault) → length text ≤ 262144 → Tokens text ts → first_unsupported (lexemes text ts) ≡ None
-    → nat_lt 256 (deepest (lexemes text ts)) ≡ false → WhyUnreadOf (lexemes text ts) fault → WhyNone text fault
-why-fault text ts faults.Memory small tokens answered shallow h = tt
-why-fault text ts (faults.TooLarge sizes.Written) small tokens answered shallow h = record {
-  symbols = read_symbols (prefixes_of (read_prologue (lexemes text ts)).0) (read_prologue (lexemes text ts)).1;
-  spelled = symbols-spelled text ts _ small tokens answered shallow refl;
-  much = h;
-}
-why-fault text ts (faults.TooLarge _) small tokens answered shallow h = absurd h
-why-fault text ts (faults.Lex at) small tokens answered shallow h = absurd h
-why-fault text ts (faults.Unsupported what) small tokens answered shallow h = absurd h
-why-fault text ts faults.NotAQuery small tokens answered shallow h = absurd h
-why-fault text ts (faults.Scope variable) small tokens answered shallow h = absurd h
-
-pub why-none : {A : Type 0} (text : List ℕ) (ts : List Token) (r : Result A QueryFault) → length text ≤ 262144 → Tokens text ts
-    → first_unsupported (lexemes text ts) ≡ None → nat_lt 256 (deepest (lexemes text ts)) ≡ false → IfErr r (WhyUnreadOf (lexemes text ts)) → IfErr r (WhyNone text)
-why-none text ts (Ok a) small tokens answered shallow h = tt
-why-none text ts (Err fault) small tokens answered shallow h = why-fault text ts fault small tokens answered shallow h

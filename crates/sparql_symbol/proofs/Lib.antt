@@ -7,7 +7,5 @@ pub mod Standing
 pub mod NameParts
 pub mod Readings
 pub mod Declarations
-pub mod Writing
 pub mod Judged
-pub mod Laws
 pub mod Firsts

@@ -9,7 +9,7 @@ use Rattle.term_core.specs.Names.{IsDotted}
 use Rattle.term_core.specs.Terminals.{IsPrefixedName, IsPrefix}
 use Rattle.sparql_lex.proofs.Bools.{either, same, false_of, pn-colon}
 use Rattle.sparql_symbol.specs.declared.undoing.Place.TheVariants as places
-use Rattle.sparql_symbol.specs.Symbols.{unescaped}
+use Rattle.sparql_tree.specs.Symbols.{unescaped}
 use Rattle.sparql_symbol.specs.Reading.{before_colon, behind_colon, local_at}
 use Rattle.sparql_symbol.specs.Undoing.{undone}
 use Rattle.sparql_symbol.proofs.Frames.{scalars-behind}

@@ -3,8 +3,8 @@ use Rattle.std.proofs.Common.{◌≡◌, ◌≤◌, ◌<◌, ℕ, suc, max, true
 use Rattle.std.specs.List.{slice_range}
 use Rattle.term_core.specs.declared.token.Token.{Token}
 use Rattle.std.proofs.lemmas.Bool.Decides.{nat_tests}
-use Rattle.sparql_symbol.specs.Symbols.{Lexeme, lexeme, lexemes}
-use Rattle.sparql_symbol.specs.Unsupported.{open_behind, deepest_from}
+use Rattle.sparql_tree.specs.Symbols.{Lexeme, lexeme, lexemes}
+use Rattle.sparql_tree.specs.Unsupported.{open_behind, deepest_from}
 
 -- no fewer than are open at first
 pub deepest-least : (n : ℕ) (ls : List Lexeme) → n ≤ deepest_from n ls

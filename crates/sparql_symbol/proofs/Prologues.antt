@@ -2,8 +2,8 @@
 use Rattle.std.proofs.Common.{◌≡◌, ◌∙◌, ◌<◌, ◌≤◌, ◌+◌, ℕ, suc, Bool, true, false, List, [], ◌∷◌, Option, Some, None, cond, length, drop, get_or, drop-cons, refl, sym, ap, arith}
 use Rattle.std.specs.Str.{bytes_eq}
 use Rattle.term_core.specs.declared.token.Token.{Token}
-use Rattle.sparql_symbol.specs.Symbols.{Lexeme, Prefixes, lexeme, lexemes}
-use Rattle.sparql_symbol.specs.Prologue.{Declaration, with_declaration, prefixes_over}
+use Rattle.sparql_tree.specs.Symbols.{Lexeme, Prefixes, lexeme, lexemes}
+use Rattle.sparql_tree.specs.Prologue.{Declaration, with_declaration, prefixes_over}
 use Rattle.sparql_symbol.specs.Reading.{Becomes, declaration_at, with_first, read_prologue}
 
 abbrev Read : Type 0

@@ -4,11 +4,11 @@ use Rattle.std.specs.Char.{to_ascii_lowercase}
 use Rattle.term_core.specs.Terminals.{IsToken, IsIri, IsShortString, IsLongString}
 use Rattle.term_core.specs.declared.token.Kind.{Kind}
 use Rattle.term_core.specs.declared.token.Kind.TheVariants as kinds
-use Rattle.sparql_symbol.specs.declared.symbol.Shape.TheVariants as shapes
-use Rattle.sparql_symbol.specs.declared.symbol.Symbol.{Symbol}
+use Rattle.sparql_tree.specs.declared.symbol.Shape.TheVariants as shapes
+use Rattle.sparql_tree.specs.declared.symbol.Symbol.{Symbol}
 use Rattle.sparql_symbol.specs.declared.undoing.Place.TheVariants as places
 use Rattle.sparql_symbol.specs.Undoing.{undone}
-use Rattle.sparql_symbol.specs.Symbols.{Prefixes, Lexeme, symbol, iri_symbol, name_symbol, IsStringSymbol, IsSymbolOf, AreSymbolsOf}
+use Rattle.sparql_tree.specs.Symbols.{Prefixes, Lexeme, symbol, iri_symbol, name_symbol, IsStringSymbol, IsSymbolOf, AreSymbolsOf}
 use Rattle.sparql_symbol.specs.Reading.{within, spelled, behind_colon, local_at, iri_at, string_at, read_symbol, read_symbols}
 use Rattle.sparql_symbol.proofs.Escapes.{iri-undone, short-undone, long-undone}
 use Rattle.sparql_symbol.proofs.Frames.{iri-framed, blank-framed, variable-framed, language-framed, StringFramed, short-framed, long-framed}

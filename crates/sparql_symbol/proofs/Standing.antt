@@ -10,7 +10,7 @@ use Rattle.term_core.specs.declared.token.Kind.{Kind}
 use Rattle.term_core.specs.declared.token.Token.{Token}
 use Rattle.sparql_lex.proofs.Cuts.{space-width}
 use Rattle.sparql_symbol.specs.Reading.{Stands}
-use Rattle.sparql_symbol.specs.Symbols.{Lexeme, lexeme, lexemes}
+use Rattle.sparql_tree.specs.Symbols.{Lexeme, lexeme, lexemes}
 use Rattle.sparql_symbol.proofs.Frames.{scalars-front, scalars-behind}
 
 slice-is : (front body back : List ℕ) (to : ℕ) → to ≡ length front + length body → slice_range (front ++ (body ++ back)) (length front) to ≡ body

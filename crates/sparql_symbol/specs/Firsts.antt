@@ -2,9 +2,9 @@
 use Rattle.std.specs.Prelude.{◌≡◌, ◌≤◌, ◌++◌, ℕ, Bool, true, false, ◌||◌, codes, List, [], ◌∷◌, Option, Some, None}
 use Rattle.term_core.specs.declared.token.Kind.{Kind}
 use Rattle.term_core.specs.declared.token.Kind.TheVariants as kinds
-use Rattle.sparql_symbol.specs.Words.{is_word}
-use Rattle.sparql_symbol.specs.Symbols.{Lexeme}
-use Rattle.sparql_symbol.specs.Unsupported.{before, is_unsupported_of, is_count_word, open_behind}
+use Rattle.sparql_tree.specs.Words.{is_word}
+use Rattle.sparql_tree.specs.Symbols.{Lexeme}
+use Rattle.sparql_tree.specs.Unsupported.{before, is_unsupported_of, is_count_word, open_behind}
 
 -- the word SELECT
 abbrev pub is_select : Kind → List ℕ → Bool

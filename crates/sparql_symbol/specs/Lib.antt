@@ -1,10 +1,4 @@
-pub mod Words
 pub mod Undoing
-pub mod Symbols
-pub mod Written
-pub mod Prologue
-pub mod Unsupported
-pub mod Refusals
 pub mod Reading
 pub mod Names
 pub mod Firsts

@@ -4,8 +4,8 @@ use Rattle.std.specs.Borrow.{Bor}
 use Rattle.std.specs.BTreeMap.{BTreeMap, get_by}
 use Rattle.std.specs.Cmp.Lexicographic.{slice_cmp}
 use Rattle.std.specs.Ordering.{nat_cmp}
-use Rattle.sparql_symbol.specs.Symbols.{Prefixes}
-use Rattle.sparql_symbol.specs.Prologue.{Declaration}
+use Rattle.sparql_tree.specs.Symbols.{Prefixes}
+use Rattle.sparql_tree.specs.Prologue.{Declaration}
 
 -- the IRI of the prefix of these bytes
 abbrev pub iri_of : BTreeMap (Bor (List ℕ)) (List ℕ) → Prefixes

@@ -1,24 +1,20 @@
 -- How the symbol of a token is read off its bytes.
-use Rattle.std.specs.Prelude.{codes, ◌≡◌, ◌<◌, ◌≤◌, ◌+◌, ◌-◌, ℕ, Bool, true, false, ◌==◌, ◌&&◌, List, [], ◌∷◌, map, length, Option, Some, None, if◌then◌else◌}
+use Rattle.std.specs.Prelude.{codes, ◌≡◌, ◌≤◌, ◌+◌, ◌-◌, ℕ, Bool, true, false, ◌==◌, ◌&&◌, List, [], ◌∷◌, map, length, Option, Some, None, if◌then◌else◌}
 use Rattle.std.specs.Char.{to_ascii_lowercase}
 use Rattle.std.specs.List.{slice_range}
 use Rattle.std.specs.Str.{chars, encode_utf8_all, IsCharBoundary}
-use Rattle.sparql_tree.specs.declared.fault.QueryFault.{QueryFault}
-use Rattle.sparql_tree.specs.declared.fault.QueryFault.TheVariants as faults
-use Rattle.sparql_tree.specs.declared.fault.Size.TheVariants as sizes
 use Rattle.term_core.specs.Names.{has_scheme}
 use Rattle.term_core.specs.Terminals.{IsToken}
 use Rattle.term_core.specs.declared.token.Kind.{Kind}
 use Rattle.term_core.specs.declared.token.Kind.TheVariants as kinds
 use Rattle.term_core.specs.declared.token.Token.{Token}
-use Rattle.sparql_symbol.specs.declared.symbol.Shape.TheVariants as shapes
-use Rattle.sparql_symbol.specs.declared.symbol.Symbol.{Symbol}
+use Rattle.sparql_tree.specs.declared.symbol.Shape.TheVariants as shapes
+use Rattle.sparql_tree.specs.declared.symbol.Symbol.{Symbol}
 use Rattle.sparql_symbol.specs.declared.undoing.Place.TheVariants as places
 use Rattle.sparql_symbol.specs.Undoing.{undone}
-use Rattle.sparql_symbol.specs.Words.{is_word, sign_shape}
-use Rattle.sparql_symbol.specs.Symbols.{Lexeme, Prefixes, symbol, bare, other, iri_symbol, name_symbol, word_symbol}
-use Rattle.sparql_symbol.specs.Written.{written}
-use Rattle.sparql_symbol.specs.Prologue.{Declaration, with_declaration, prefixes_of}
+use Rattle.sparql_tree.specs.Words.{is_word, sign_shape}
+use Rattle.sparql_tree.specs.Symbols.{Lexeme, Prefixes, symbol, bare, other, iri_symbol, name_symbol, word_symbol}
+use Rattle.sparql_tree.specs.Prologue.{Declaration, with_declaration, prefixes_of}
 
 -- a token stands in the text, between two of its characters
 pub record Stands (text : List ℕ) (t : Token) : Type 0 where
@@ -144,13 +140,3 @@ Becomes (Some d) found old new = (found ≡ true) × ((prefix : List ℕ) → ne
 -- the symbols of the tokens behind the prologue
 abbrev pub AreRead : List Lexeme → List Symbol → Type 0
 AreRead ls symbols = symbols ≡ read_symbols (prefixes_of (read_prologue ls).0) (read_prologue ls).1
-
--- why symbols are not read: want of memory, or that they write out too much
-abbrev pub WhyUnread : List Symbol → QueryFault → Type 0
-WhyUnread symbols faults.Memory = Unit {0}
-WhyUnread symbols (faults.TooLarge sizes.Written) = 16777216 < written symbols
-WhyUnread symbols _ = ⊥
-
--- the same of those behind the prologue
-abbrev pub WhyUnreadOf : List Lexeme → QueryFault → Type 0
-WhyUnreadOf ls fault = WhyUnread (read_symbols (prefixes_of (read_prologue ls).0) (read_prologue ls).1) fault

@@ -1,29 +1,10 @@
-//! Laws of the symbols of a text. Each is the contract of a function that does nothing.
+//! Laws of the symbols of tokens. Each is the contract of a function that does nothing.
 
-ghost use Rattle.std.specs.Prelude.{◌≡◌, ◌⊎◌, ◌++◌, ℕ, List, true};
-ghost use Rattle.sparql_tree.specs.declared.fault.QueryFault.{QueryFault};
-ghost use Rattle.sparql_symbol.specs.declared.symbol.Symbol.{Symbol};
+ghost use Rattle.std.specs.Prelude.{◌≡◌, ◌++◌, List, true};
 ghost use Rattle.sparql_symbol.specs.Firsts.{FindsFirst, IsDeepest};
-ghost use Rattle.sparql_symbol.specs.Refusals.{AreSymbols, IsRefused};
-ghost use Rattle.sparql_symbol.specs.Symbols.{Lexeme};
-ghost use Rattle.sparql_symbol.specs.Unsupported.{first_unsupported, deepest};
-ghost use Rattle.sparql_symbol.specs.Words.{are_words_apart, HasEach, word_tables, word_shape, marks, operators, sign_shape};
-
-/// A text has at most one list of symbols.
-pub fn one_list_of_symbols()
-    ensures { (text : List ℕ) (a b : List Symbol) → AreSymbols text a → AreSymbols text b → a ≡ b }
-{}
-
-/// A text has at most one first cause of a refusal.
-pub fn one_refusal()
-    ensures { (text : List ℕ) (a b : QueryFault) → IsRefused text a → IsRefused text b → a ≡ b }
-{}
-
-/// A text never has symbols and a cause of a refusal, and has always one of both.
-pub fn symbols_or_refusal()
-    ensures not_both { (text : List ℕ) (symbols : List Symbol) (fault : QueryFault) → AreSymbols text symbols → IsRefused text fault → ⊥ }
-    ensures always { (text : List ℕ) → ((symbols : List Symbol) × AreSymbols text symbols) ⊎ ((fault : QueryFault) × IsRefused text fault) }
-{}
+ghost use Rattle.sparql_tree.specs.Symbols.{Lexeme};
+ghost use Rattle.sparql_tree.specs.Unsupported.{first_unsupported, deepest};
+ghost use Rattle.sparql_tree.specs.Words.{are_words_apart, HasEach, word_tables, word_shape, marks, operators, sign_shape};
 
 /// The token that a refusal names is not answered, and each before it is; where none is named all are
 /// answered.

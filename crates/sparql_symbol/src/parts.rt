@@ -2,8 +2,6 @@
 
 ghost use Rattle.std.specs.Prelude.{◌≡◌, ◌==◌, ℕ};
 ghost use Rattle.std.specs.List.{slice_range};
-ghost use Rattle.term_core.specs.Characters.{after, begins};
-ghost use Rattle.term_core.specs.Names.{is_scheme, has_scheme};
 ghost use Rattle.sparql_symbol.specs.Reading as spec;
 ghost use Rattle.sparql_symbol.specs.Reading.{Stands, IsFramed, before_colon, behind_colon};
 
@@ -45,33 +43,5 @@ pub fn quotes_of(text: &[u8]) -> usize
     match text {
         [a, b, c, ..] => { if *a == *b && *b == *c { 3 } else { 1 } }
         _ => 1,
-    }
-}
-
-fn is_of_scheme(byte: u8) -> bool
-    ensures { result ≡ is_scheme byte }
-{
-    byte.is_ascii_alphabetic() || byte.is_ascii_digit() || matches!(byte, b'+' | b'-' | b'.')
-}
-
-/// Whether a colon stands behind the longest front that may stand in a scheme.
-fn colon_follows(text: &[u8]) -> bool
-    ensures { result ≡ begins (λ d. d == 58) (after is_scheme text.now) }
-{
-    for byte in text {
-        if !is_of_scheme(*byte) {
-            return *byte == b':';
-        }
-    }
-    false
-}
-
-/// Whether an IRI has a scheme (RFC 3986, section 3.1).
-pub fn has_scheme(iri: &[u8]) -> bool
-    ensures { result ≡ has_scheme iri.now }
-{
-    match iri {
-        [first, more @ ..] => first.is_ascii_alphabetic() && colon_follows(more),
-        [] => false,
     }
 }

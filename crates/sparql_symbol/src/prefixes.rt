@@ -2,7 +2,7 @@
 
 ghost use Rattle.std.specs.Prelude.{◌≡◌, OnOk, List, ℕ};
 ghost use Rattle.sparql_symbol.specs.Names.{iri_of, declaration};
-ghost use Rattle.sparql_symbol.specs.Prologue.{with_declaration};
+ghost use Rattle.sparql_tree.specs.Prologue.{with_declaration};
 
 use std::alloc::Global;
 use std::collections::BTreeMap;

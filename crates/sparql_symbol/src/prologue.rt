@@ -4,17 +4,17 @@ ghost use Rattle.std.specs.Prelude.{◌≡◌, ◌≤◌, ℕ, List, All, IfOk, 
 ghost use Rattle.std.specs.Str.{chars};
 ghost use Rattle.term_core.specs.Terminals.{IsToken};
 ghost use Rattle.sparql_symbol.specs.Names.{iri_of};
-ghost use Rattle.sparql_symbol.specs.Prologue.{prefixes_over};
+ghost use Rattle.sparql_tree.specs.Prologue.{prefixes_over};
 ghost use Rattle.sparql_symbol.specs.Reading as spec;
 ghost use Rattle.sparql_symbol.specs.Reading.{Stands, Becomes, declaration_at, read_prologue};
-ghost use Rattle.sparql_symbol.specs.Symbols.{lexeme, lexemes};
+ghost use Rattle.sparql_tree.specs.Symbols.{lexeme, lexemes};
 
-use crate::parts::{has_scheme, spelling, split_colon};
+use crate::parts::{spelling, split_colon};
 use crate::prefixes::{Prefixes, declare};
 use crate::reading::read_iri;
 use crate::words::is_word;
 use std::alloc::Global;
-use term_core::{Kind, Memory, Text, Token};
+use term_core::{Kind, Memory, Text, Token, has_scheme};
 
 fn is_prefix_word(kind: Kind, text: &str) -> bool
     ensures { result ≡ spec.is_prefix_word kind text.now }

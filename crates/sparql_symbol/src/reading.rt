@@ -7,17 +7,17 @@ ghost use Rattle.term_core.specs.Terminals.{IsToken};
 ghost use Rattle.term_core.specs.declared.token.Kind.TheVariants as kinds;
 ghost use Rattle.sparql_symbol.specs.Reading as spec;
 ghost use Rattle.sparql_symbol.specs.Reading.{iri_at, read_symbol};
-ghost use Rattle.sparql_symbol.specs.Symbols as symbols;
+ghost use Rattle.sparql_tree.specs.Symbols as symbols;
 ghost use Rattle.sparql_symbol.specs.Names.{iri_of};
-ghost use Rattle.sparql_symbol.specs.declared.symbol.Shape.TheVariants as Shape;
+ghost use Rattle.sparql_tree.specs.declared.symbol.Shape.TheVariants as Shape;
 
-use crate::parts::{has_scheme, quotes_of, split_colon, within};
+use crate::parts::{quotes_of, split_colon, within};
 use crate::prefixes::Prefixes;
 use crate::undoing::{Place, undo};
 use crate::words::{is_word, sign_shape, word_shape};
-use crate::{Shape, Symbol};
+use sparql_tree::{Shape, Symbol};
 use std::alloc::Global;
-use term_core::{Kind, Memory, Text};
+use term_core::{Kind, Memory, Text, has_scheme};
 
 /// The symbol of a shape that has no value.
 fn bare(alloc: Global, shape: Shape) -> Symbol

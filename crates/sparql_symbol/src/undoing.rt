@@ -2,11 +2,11 @@
 
 ghost use Rattle.std.specs.Prelude.{◌≡◌, ◌++◌, [], IfOk, OnOk, string_bytes};
 ghost use Rattle.std.specs.Str.{chars, encode_utf8_all};
-ghost use Rattle.term_core.specs.Escapes.{echar_value};
 ghost use Rattle.sparql_symbol.specs.Undoing as spec;
 ghost use Rattle.sparql_symbol.specs.Undoing.{undone, with_digit};
 
 use std::alloc::AllocError;
+use term_core::unescaped;
 
 /// Where the reading of a text with escapes stands.
 #[derive(Clone, Copy, Debug, PartialEq, Eq)]
@@ -26,23 +26,6 @@ pub enum Place {
 struct Reading {
     spelled: Option<char>,
     next: Place,
-}
-
-/// The character that a letter behind a backslash stands for (SPARQL 1.1, section 19.8, ECHAR).
-fn echar(letter: char) -> Option<char>
-    ensures { result ≡ echar_value letter }
-{
-    match letter {
-        't' => Some('\t'),
-        'b' => Some('\u{8}'),
-        'n' => Some('\n'),
-        'r' => Some('\r'),
-        'f' => Some('\u{c}'),
-        '"' => Some('"'),
-        '\'' => Some('\''),
-        '\\' => Some('\\'),
-        _ => None,
-    }
 }
 
 fn plain_step(c: char) -> Reading
@@ -80,7 +63,7 @@ fn letter_step(c: char) -> Reading
         digits_follow(8)
     } else {
         Reading {
-            spelled: echar(c),
+            spelled: unescaped(c),
             next: Place::Plain,
         }
     }

@@ -3,9 +3,9 @@
 ghost use Rattle.std.specs.Prelude.{◌≡◌, ◌≤◌, ◌<◌, All, option_map, nat_lt};
 ghost use Rattle.xsd_num.specs.Values.{number_of, found};
 ghost use Rattle.sparql_symbol.specs.Reading.{Stands};
-ghost use Rattle.sparql_symbol.specs.Symbols.{lexemes};
-ghost use Rattle.sparql_symbol.specs.Unsupported as spec;
-ghost use Rattle.sparql_symbol.specs.Unsupported.{first_unsupported, deepest};
+ghost use Rattle.sparql_tree.specs.Symbols.{lexemes};
+ghost use Rattle.sparql_tree.specs.Unsupported as spec;
+ghost use Rattle.sparql_tree.specs.Unsupported.{first_unsupported, deepest};
 
 use crate::parts::spelling;
 use crate::words::{is_unsupported_word, is_word};
@@ -72,7 +72,7 @@ fn is_bracket(text: &[u8]) -> bool
 }
 
 fn is_unsupported(before: Before, kind: Kind, text: &[u8]) -> bool
-    ensures { result ≡ spec.is_unsupported_of before kind text.now }
+    ensures { result ≡ spec.is_unsupported_of (spec.before before.select before.count) kind text.now }
 {
     match kind {
         Kind::Double => true,
@@ -92,7 +92,7 @@ fn is_count_word(text: &[u8]) -> bool
 
 /// What has come before the token behind this one.
 fn before_next(before: Before, kind: Kind, text: &[u8]) -> Before
-    ensures { result ≡ spec.before_next before kind text.now }
+    ensures { spec.before result.select result.count ≡ spec.before_next (spec.before before.select before.count) kind text.now }
 {
     match kind {
         Kind::Word => Before {

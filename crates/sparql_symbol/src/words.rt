@@ -2,13 +2,12 @@
 
 ghost use Rattle.std.specs.Prelude.{◌≡◌};
 ghost use Rattle.std.specs.Str.{bytes_eq};
-ghost use Rattle.sparql_symbol.specs.Words as spec;
-ghost use Rattle.sparql_symbol.specs.Words.{first_row, word_in, is_one_of};
-ghost use Rattle.sparql_symbol.specs.Words.{clause_words, pattern_words, term_functions, value_functions, marks, operators};
-ghost use Rattle.sparql_symbol.specs.Words.{query_forms, updates, number_functions, string_functions, time_functions, making_functions};
+ghost use Rattle.sparql_tree.specs.Words as spec;
+ghost use Rattle.sparql_tree.specs.Words.{first_row, word_in, is_one_of};
+ghost use Rattle.sparql_tree.specs.Words.{clause_words, pattern_words, term_functions, value_functions, marks, operators};
+ghost use Rattle.sparql_tree.specs.Words.{query_forms, updates, number_functions, string_functions, time_functions, making_functions};
 
-use crate::Shape;
-use sparql_tree::{AggregateKind, Function};
+use sparql_tree::{AggregateKind, Function, Shape};
 
 /// Whether two texts are one word, read without case.
 pub fn is_word(text: &[u8], word: &[u8]) -> bool

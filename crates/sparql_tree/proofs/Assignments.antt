@@ -10,7 +10,8 @@ use Rattle.term_core.specs.Mappings.{Name, Row, value, same_name, has_name}
 use Rattle.term_core.proofs.Bags.{In-map, from_In-map, In-flat_map, from_In-flat_map, AreDistinct-map, AreDistinct-flat_map}
 use Rattle.term_core.proofs.Merges.{names_same, name_itself, Some_same, not_some, has_name-from, same_row, not_named}
 use Rattle.term_core.proofs.Distinct.{from_In-distinct, In-distinct, AreDistinct-distinct}
-use Rattle.sparql_tree.specs.Bgp.{Pattern, names_in, names_of, assignments, Names}
+use Rattle.term_core.specs.Patterns.{Pattern, names_in}
+use Rattle.sparql_tree.specs.Bgp.{names_of, assignments, Names}
 
 -- the names of patterns stand once each, and are those that stand in a pattern
 pub names_of_distinct : (ps : List Pattern) → AreDistinct (names_of ps)

@@ -1,13 +1,12 @@
 -- Data with the same triples have the same solutions.
 use Rattle.std.proofs.Common.{List}
 use Rattle.term_core.specs.declared.term.Triple.{Triple}
-use Rattle.term_core.specs.Bags.{SameBag, In}
+use Rattle.term_core.specs.Bags.{SameBag, In, HaveSame}
 use Rattle.term_core.specs.Mappings.{Row}
 use Rattle.term_core.proofs.Bags.{same_members}
 use Rattle.term_core.proofs.Joined.{bag_map}
-use Rattle.sparql_tree.specs.Bgp.{Pattern, full_solutions, IsFull}
-use Rattle.sparql_tree.specs.Algebra.{visible, Algebra, Bgp, eval}
-use Rattle.sparql_tree.specs.Laws.{HaveSame}
+use Rattle.term_core.specs.Patterns.{Pattern}
+use Rattle.sparql_tree.specs.Bgp.{full_solutions, IsFull, visible, solutions}
 use Rattle.sparql_tree.proofs.Full.{full_to, full_from, full_distinct}
 
 -- a full solution over some triples is one over more
@@ -22,5 +21,5 @@ full_same D E ps h =
     (λ row i. full_from D ps row (full_data E D ps row h.from (full_to E ps row i)))
 
 -- a list of triples stands for the set of them
-pub eval_same : (D E : List Triple) (a : Algebra) → HaveSame D E → SameBag (eval D a) (eval E a)
-eval_same D E (Bgp ps) h = bag_map visible (full_solutions D ps) (full_solutions E ps) (full_same D E ps h)
+pub solutions_same : (D E : List Triple) (ps : List Pattern) → HaveSame D E → SameBag (solutions D ps) (solutions E ps)
+solutions_same D E ps h = bag_map visible (full_solutions D ps) (full_solutions E ps) (full_same D E ps h)

@@ -4,13 +4,15 @@ use Rattle.std.specs.Prelude.{flat_map, is_some}
 use Rattle.std.specs.List.{filter_map, list_any}
 use Rattle.term_core.specs.declared.term.Term.{Term}
 use Rattle.term_core.specs.declared.term.Triple.{Triple}
-use Rattle.term_core.specs.Bags.{In, AreDistinct, SameBag}
+use Rattle.term_core.specs.Bags.{In, AreDistinct, SameBag, HaveSame}
 use Rattle.term_core.specs.Mappings.{Name, Row, value, same_term, has_name, joined, joins, restricted, IsJoin, IsAmongJoins}
 use Rattle.term_core.proofs.Bags.{In-append_left, In-append_right, In-append_cases, In-flat_map, In-filter, from_In-filter, from_In-filter_map, AreDistinct-filter, AreDistinct-flat_map, AreDistinct-filter_map, same_members}
 use Rattle.term_core.proofs.Merges.{terms_same, term_itself, Some_same, not_some, list_all-from, list_all-at, list_any-to, list_any-from, has_name-to, has_name-from, same_row, value-restricted, both_true, and_true, not_named, joined_to, from_In-joins, In-joins}
 use Rattle.term_core.proofs.Distinct.{In-distinct, AreDistinct-distinct}
-use Rattle.sparql_tree.specs.Bgp.{Position, Known, Named, Pattern, names_at, names_in, names_of, parts, terms_of, assignments, filled, is_term, becomes, solves, full_solutions, Names, IsFull}
-use Rattle.sparql_tree.specs.Laws.{HaveSame, AreExact}
+use Rattle.term_core.specs.Patterns.{Position, Known, Named, Pattern, names_at, names_in, filled}
+use Rattle.sparql_tree.specs.Bgp.{names_of, assignments, is_term, becomes, solves, full_solutions, Names, IsFull}
+use Rattle.term_core.specs.Data.{parts, terms_of}
+use Rattle.sparql_tree.specs.Laws.{AreExact}
 use Rattle.sparql_tree.proofs.Assignments.{names_of_distinct, names_of-to, names_of-from, IsAssignment, assignment_to, assignment_from, assignments_distinct}
 
 -- what it is for a pattern to become a triple

@@ -4,3 +4,4 @@ pub mod Visible
 pub mod Data
 pub mod ExprViews
 pub mod GroupViews
+pub mod NameSets

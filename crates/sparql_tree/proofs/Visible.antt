@@ -7,7 +7,7 @@ use Rattle.term_core.specs.OrderLaws.{same_bytes}
 use Rattle.term_core.specs.Bags.{In}
 use Rattle.term_core.specs.Mappings.{Name, Row, value, has_name, restricted}
 use Rattle.term_core.proofs.Merges.{not_some, same_row, has_name-to, value-restricted}
-use Rattle.sparql_tree.specs.Algebra.{is_variable, visible}
+use Rattle.sparql_tree.specs.Bgp.{is_variable, visible}
 use Rattle.sparql_tree.specs.Laws.{AreApart}
 
 -- what a row has when it is restricted to the variables

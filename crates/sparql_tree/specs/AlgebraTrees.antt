@@ -1,6 +1,6 @@
 -- The trees of the code's operators.
 use Rattle.sparql_tree.specs.ExprTrees.{tree_of, tree_within}
-use Rattle.sparql_tree.specs.Operators as tree
+use Rattle.sparql_tree.specs.Algebra as tree
 use Rattle.sparql_tree.specs.declared.algebra.Algebra.{Algebra}
 use Rattle.sparql_tree.specs.declared.algebra.Algebra.TheVariants as code
 

@@ -1,70 +1,22 @@
--- Basic graph patterns and their solutions (SPARQL 1.1, sections 18.1.5, 18.1.6 and 18.3).
-use Rattle.std.specs.Prelude.{◌≡◌, ℕ, List, [], ◌∷◌, ◌++◌, map, Option, Some, None, Bool, true, false, ◌&&◌, flat_map, filter}
+-- Basic graph patterns and their solutions (SPARQL 1.1, sections 18.1.6 and 18.3).
+use Rattle.std.specs.Prelude.{◌≡◌, List, [], ◌∷◌, map, Option, Some, None, Bool, true, false, not, ◌==◌, ◌&&◌, flat_map, filter}
 use Rattle.std.specs.List.{list_any, list_all}
 use Rattle.std.specs.FinMap as finmap
 use Rattle.term_core.specs.declared.term.Term.{Term}
 use Rattle.term_core.specs.declared.term.Triple.{Triple}
-use Rattle.term_core.specs.declared.pattern.Place as code_place
-use Rattle.term_core.specs.declared.pattern.Place.TheVariants as place
-use Rattle.term_core.specs.declared.pattern.Pattern as code
 use Rattle.term_core.specs.Bags.{In, distinct}
 use Rattle.term_core.specs.Mappings.{Name, Row, value, same_name, same_term}
-
--- a position of a triple pattern: a term, or the name of a variable or of a blank node (SPARQL 1.1, 18.1.5)
-pub data Position : Type 0 where
-  Known : (term : Term) → Position
-  Named : (name : Name) → Position
-
--- a triple pattern (SPARQL 1.1, 18.1.5); a basic graph pattern is a list of them (18.1.6)
-pub record Pattern : Type 0 where
-  pub subject : Position
-  pub predicate : Position
-  pub object : Position
-
--- the name of a blank node: `_:` before its label (SPARQL 1.1, 4.1.4)
-abbrev pub label_name : List ℕ → Name
-label_name label = 95 ∷ 58 ∷ label
-
--- a position, as the code holds it
-abbrev pub position_of : code_place.Place → Position
-position_of (place.Var name) = Named name
-position_of (place.Blank label) = Named (label_name label)
-position_of (place.Term term) = Known term
-
--- a triple pattern, as the code holds it
-abbrev pub pattern_of : code.Pattern → Pattern
-pattern_of p = record { subject = position_of p.subject; predicate = position_of p.predicate; object = position_of p.object }
-
--- the name at a position, if any
-abbrev pub names_at : Position → List Name
-names_at (Known term) = []
-names_at (Named name) = name ∷ []
-
--- the names in a triple pattern, in order, with repeats
-abbrev pub names_in : Pattern → List Name
-names_in p = names_at p.subject ++ (names_at p.predicate ++ names_at p.object)
+use Rattle.term_core.specs.Patterns.{Pattern, names_in, filled}
+use Rattle.term_core.specs.Data.{terms_of}
 
 -- the variables and blank nodes of the patterns, each once
 abbrev pub names_of : List Pattern → List Name
 names_of ps = distinct same_name (flat_map names_in ps)
 
--- the three terms of a triple
-abbrev pub parts : Triple → List Term
-parts t = t.subject ∷ t.predicate ∷ t.object ∷ []
-
--- the terms of the data, each once (SPARQL 1.1, 18.1.1)
-abbrev pub terms_of : List Triple → List Term
-terms_of D = distinct same_term (flat_map parts D)
-
 -- all functions from the names to the terms, each once
 abbrev pub assignments : List Name → List Term → List Row
 assignments [] terms = finmap.empty ∷ []
 assignments (name ∷ names) terms = flat_map (λ row. map (finmap.insert row name) terms) (assignments names terms)
-
--- what a position becomes under a row: a term, or nothing where the name has no value
-abbrev pub filled : Row → Position → Option Term
-filled row (Known term) = Some term
-filled row (Named name) = value row name
 
 -- whether a value is there and is the term
 abbrev pub is_term : Option Term → Term → Bool
@@ -82,6 +34,23 @@ solves D ps row = list_all (λ p. list_any (becomes row p) D) ps
 -- the functions from the names to the data's terms under which every pattern becomes a triple (SPARQL 1.1, 18.3.1)
 abbrev pub full_solutions : List Triple → List Pattern → List Row
 full_solutions D ps = filter (solves D ps) (assignments (names_of ps) (terms_of D))
+
+-- whether a name is a blank node's: it begins with `_:` (SPARQL 1.1, 4.1.4)
+abbrev pub is_label : Name → Bool
+is_label (a ∷ b ∷ label) = (a == 95) && (b == 58)
+is_label name = false
+
+-- whether a name is a variable's, which has no colon (SPARQL 1.1, 19.8, VARNAME)
+abbrev pub is_variable : Name → Bool
+is_variable name = not (is_label name)
+
+-- a row restricted to the variables (SPARQL 1.1, 18.3.1)
+abbrev pub visible : Row → Row
+visible row = finmap.retain_keys row is_variable
+
+-- the solutions of a basic graph pattern: the full ones without the values of blank nodes (SPARQL 1.1, 18.3.1)
+abbrev pub solutions : List Triple → List Pattern → List Row
+solutions D ps = map visible (full_solutions D ps)
 
 -- a name that stands in one of the patterns
 abbrev pub Names : List Pattern → Name → Type 0

@@ -1,15 +1,10 @@
 -- What is proved of solutions.
 use Rattle.std.specs.Prelude.{◌≡◌, ℕ, List, [], ◌∷◌, true, false}
 use Rattle.term_core.specs.declared.term.Triple.{Triple}
-use Rattle.term_core.specs.Bags.{SameBag, AreDistinct, In}
+use Rattle.term_core.specs.Bags.{SameBag, AreDistinct, In, HaveSame}
 use Rattle.term_core.specs.Mappings.{Name, Row, joins}
-use Rattle.sparql_tree.specs.Bgp.{label_name, Pattern, full_solutions, IsFull}
-use Rattle.sparql_tree.specs.Algebra.{is_variable, Algebra, eval}
-
--- two lists have the same members, in whatever order and however often
-pub record HaveSame {X : Type 0} (xs ys : List X) : Type 0 where
-  pub to : (x : X) → In xs x → In ys x
-  pub from : (x : X) → In ys x → In xs x
+use Rattle.term_core.specs.Patterns.{Pattern, label_name}
+use Rattle.sparql_tree.specs.Bgp.{full_solutions, IsFull, is_variable, solutions}
 
 -- the full solutions are the rows that meet `IsFull`, each once (SPARQL 1.1, 18.3.1)
 pub record AreExact (D : List Triple) (ps : List Pattern) : Type 0 where
@@ -32,7 +27,7 @@ OnePattern = (D : List Triple) (ps : List Pattern) (p : Pattern) →
 
 -- a list of triples stands for the set of them: an RDF graph is a set (RDF 1.1 Concepts, 3)
 abbrev pub DataAsSet : Type 0
-DataAsSet = (D E : List Triple) (a : Algebra) → HaveSame D E → SameBag (eval D a) (eval E a)
+DataAsSet = (D E : List Triple) (ps : List Pattern) → HaveSame D E → SameBag (solutions D ps) (solutions E ps)
 
 -- a name without a colon is a variable's, and that of a blank node is not (SPARQL 1.1, 19.8, VARNAME)
 pub record AreApart : Type 0 where

@@ -3,7 +3,7 @@
 ghost use Rattle.std.specs.Prelude.{◌≡◌, IfOk, Option, Some, None};
 ghost use Rattle.sparql_tree.specs.AlgebraTrees.{algebra_of};
 ghost use Rattle.sparql_tree.specs.ExprTrees.{tree_of, tree_within};
-ghost use Rattle.sparql_tree.specs.Operators as tree;
+ghost use Rattle.sparql_tree.specs.Algebra as tree;
 
 use crate::Expr;
 use std::alloc::Global;
@@ -40,13 +40,28 @@ pub enum Algebra {
     },
 }
 
+/// Both operands in boxes of their own.
+fn boxed(
+    alloc: Global,
+    left: Algebra,
+    right: Algebra,
+) -> Result<(Box<Algebra>, Box<Algebra>), Memory>
+    ensures left { IfOk result (λ p. p.0.value ≡ left) }
+    ensures right { IfOk result (λ p. p.1.value ≡ right) }
+{
+    let left = Box::new(alloc, left)?;
+    let right = Box::new(alloc, right)?;
+    Ok((left, right))
+}
+
 impl Algebra {
     /// The solutions of both that are compatible, merged.
     #[tactic(auto, unfolding(crate::specs::AlgebraTrees::algebra_of))]
     pub fn join(alloc: Global, left: Algebra, right: Algebra) -> Result<Algebra, Memory>
         ensures { IfOk result (λ a. algebra_of a ≡ tree.Join (algebra_of left) (algebra_of right)) }
     {
-        Ok(Algebra::Join(Box::new(alloc, left)?, Box::new(alloc, right)?))
+        let (left, right) = boxed(alloc, left, right)?;
+        Ok(Algebra::Join(left, right))
     }
 
     /// Each solution on the left, merged with what fits it on the right where the condition holds.
@@ -60,9 +75,10 @@ impl Algebra {
         ensures { IfOk result (λ a. algebra_of a
             ≡ tree.LeftJoin (algebra_of left) (algebra_of right) (tree_within condition)) }
     {
+        let (left, right) = boxed(alloc, left, right)?;
         Ok(Algebra::LeftJoin {
-            left: Box::new(alloc, left)?,
-            right: Box::new(alloc, right)?,
+            left,
+            right,
             condition,
         })
     }
@@ -72,7 +88,8 @@ impl Algebra {
     pub fn minus(alloc: Global, left: Algebra, right: Algebra) -> Result<Algebra, Memory>
         ensures { IfOk result (λ a. algebra_of a ≡ tree.Minus (algebra_of left) (algebra_of right)) }
     {
-        Ok(Algebra::Minus(Box::new(alloc, left)?, Box::new(alloc, right)?))
+        let (left, right) = boxed(alloc, left, right)?;
+        Ok(Algebra::Minus(left, right))
     }
 
     /// The solutions of both.
@@ -80,7 +97,8 @@ impl Algebra {
     pub fn union(alloc: Global, left: Algebra, right: Algebra) -> Result<Algebra, Memory>
         ensures { IfOk result (λ a. algebra_of a ≡ tree.Union (algebra_of left) (algebra_of right)) }
     {
-        Ok(Algebra::Union(Box::new(alloc, left)?, Box::new(alloc, right)?))
+        let (left, right) = boxed(alloc, left, right)?;
+        Ok(Algebra::Union(left, right))
     }
 
     /// The solutions for which the condition is true.

@@ -10,9 +10,6 @@ pub enum Size {
     Text,
     /// 256 of `(` and `{` that are open at one place.
     Nesting,
-    /// 16,777,216 bytes of the query written out: each name as its whole IRI, each triple with its own
-    /// subject and verb, each value of a table with its variable.
-    Written,
     /// 100 levels of the algebra or of an expression.
     Depth,
     /// 4,000 in all, over the algebra and its expressions.

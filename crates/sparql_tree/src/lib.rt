@@ -7,9 +7,9 @@ mod expr;
 mod fault;
 mod group;
 mod law;
+mod mark;
 mod query;
-#[cfg(test)]
-mod tests;
+mod symbol;
 mod words;
 
 pub use algebra::Algebra;
@@ -17,5 +17,7 @@ pub use expr::{Expr, Factor, Signed};
 pub use fault::{QueryFault, Size};
 pub use group::{Element, Group};
 pub use law::{any_order, data_as_set, names_are_apart, one_pattern, solutions_are_exact};
+pub use mark::Mark;
 pub use query::{GroupKey, OrderKey, Query, SelectItem};
+pub use symbol::{Shape, Symbol};
 pub use words::{AggregateKind, CompareOp, Function};

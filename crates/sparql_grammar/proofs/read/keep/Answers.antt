@@ -3,8 +3,8 @@ use Rattle.std.specs.Prelude.{map}
 use Rattle.std.proofs.lemmas.Grind.{common_steps}
 use Rattle.std.proofs.lemmas.Map.Text.{btree_set_updates_text}
 use Rattle.sparql_tree.specs.GroupTrees.{item_of}
-use Rattle.sparql_grammar.specs.Queries.{variables}
-use Rattle.sparql_grammar.proofs.Names.{seen_push}
+use Rattle.sparql_tree.specs.Queries.{variables}
+use Rattle.sparql_tree.proofs.NameSets.{seen_push}
 use Rattle.sparql_grammar.proofs.read.keep.Goals as goal
 
 pub returns-in_ok-push-clause-seen : goal.returns-in_ok-push-clause-seen

@@ -1,8 +1,8 @@
 use Rattle.std.proofs.Common.{◌≡◌, []}
 use Rattle.std.specs.Prelude.{map}
 use Rattle.sparql_tree.specs.GroupTrees.{item_of}
-use Rattle.sparql_grammar.specs.Queries.{variables, with_items}
-use Rattle.sparql_grammar.specs.Written.{HasNames}
+use Rattle.sparql_tree.specs.Queries.{variables, with_items}
+use Rattle.sparql_tree.specs.NameSets.{HasNames}
 use Rattle.sparql_grammar.proofs.read.kept_items.Given as goal
 
 -- what is left gives, behind what is kept so far, what all gives

@@ -1,7 +1,7 @@
 use Rattle.std.proofs.Common.{◌≡◌, ◌≤◌, ◌-◌, ℕ, List, length, drop}
 use Rattle.sparql_symbol.specs.Names.{iri_of}
-use Rattle.sparql_symbol.specs.Symbols.{lexemes}
-use Rattle.sparql_symbol.specs.Prologue.{prefixes_over}
+use Rattle.sparql_tree.specs.Symbols.{lexemes}
+use Rattle.sparql_tree.specs.Prologue.{prefixes_over}
 use Rattle.sparql_symbol.specs.Reading.{read_prologue}
 use Rattle.sparql_symbol.proofs.prologue.read_prologue.Given as goal
 

@@ -1,6 +1,6 @@
 use Rattle.std.proofs.Common.{◌≡◌, ◌≤◌, drop, nat_lt}
-use Rattle.sparql_symbol.specs.Symbols.{lexemes}
-use Rattle.sparql_symbol.specs.Unsupported.{deepest, deepest_from}
+use Rattle.sparql_tree.specs.Symbols.{lexemes}
+use Rattle.sparql_tree.specs.Unsupported.{deepest, deepest_from}
 use Rattle.sparql_symbol.proofs.unsupported.is_too_deep.Given as goal
 
 abbrev pub invariant-loop-token : goal.invariant-loop-token

@@ -1,6 +1,6 @@
 use Rattle.std.proofs.Common.{◌∙◌, ap}
 use Rattle.term_core.specs.Numbers as numbers
-use Rattle.sparql_symbol.specs.Unsupported.{is_unsupported_number}
+use Rattle.sparql_tree.specs.Unsupported.{is_unsupported_number}
 use Rattle.sparql_symbol.proofs.unsupported.is_unsupported_integer.Goals as goal
 
 pub returns : goal.returns

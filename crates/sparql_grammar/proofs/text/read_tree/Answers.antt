@@ -1,7 +1,0 @@
-use Rattle.std.proofs.Common.{sym, subst}
-use Rattle.sparql_symbol.specs.Refusals.{AreSymbols}
-use Rattle.sparql_grammar.proofs.Texts.{why-refused}
-use Rattle.sparql_grammar.proofs.text.read_tree.Goals as goal
-
-pub returns-clause-why : goal.returns-clause-why
-returns-clause-why c = why-refused _ _ _ (subst (AreSymbols _) (sym c.as_slice.ensures) c.in_ok-found.ensures.found) c.read_symbols.ensures.why

@@ -1,7 +1,0 @@
-use Rattle.std.proofs.Common.{take}
-use Rattle.sparql_grammar.specs.Written.{HasNames}
-use Rattle.sparql_read.proofs.names.set_of.Given as goal
-
--- the set has those that were added
-abbrev pub invariant-loop-name : goal.invariant-loop-name
-invariant-loop-name l = HasNames l.seen (take l.name-index l.names)

@@ -1,0 +1,9 @@
+pub mod Parts
+pub mod Placed
+pub mod Judged
+pub mod Firsts
+pub mod Elements
+pub mod Numbered
+pub mod Named
+pub mod Alone
+pub mod Kept

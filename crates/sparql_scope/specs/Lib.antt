@@ -1,0 +1,5 @@
+pub mod Parts
+pub mod Places
+pub mod Numbers
+pub mod Named
+pub mod Rules

@@ -1,9 +1,0 @@
-pub mod Paid
-pub mod Terms
-pub mod Exprs
-pub mod Triples
-pub mod Entries
-pub mod Tables
-pub mod Groups
-pub mod Queries
-pub mod Counts
