@@ -1,9 +1,12 @@
 pub mod Quanta
-pub mod Fronts
+pub mod Prefixes
 pub mod Limits
-pub mod Ended
-pub mod Exact
+pub mod Files
+pub mod Sinks
 pub mod Answering
 pub mod Opened
 pub mod StoreFiles
-pub mod StoreRuns
+pub mod Tries
+pub mod Builds
+pub mod Informs
+pub mod Runs

@@ -5,15 +5,15 @@ use Rattle.std.proofs.lemmas.List.{take_min, length-take}
 use Rattle.term_core.specs.declared.term.Triple.{Triple}
 use Rattle.term_core.specs.declared.pattern.Pattern.{Pattern}
 use Rattle.term_core.specs.Mappings.{Name}
-use Rattle.sage.specs.Data.{IsData, IsRefused}
+use Rattle.sage.specs.Data.{IsData, IsRefused, NoData}
 use Rattle.nt_text.specs.declared.fault.DataFault.{DataFault}
 use Rattle.nt_text.specs.declared.fault.DataFault.TheVariants as data_faults
 use Rattle.nt_text.specs.Faults.{WhyRefused, IsNotUtf8, IsRefusedAt, IsBad, HasLongTerm, IsOneTooMany}
 use Rattle.nt_text.proofs.Judged.{no_both}
 use Rattle.pattern_query.specs.Query.{IsQuery}
-use Rattle.sage.specs.Outcome.{Answers, NoData, NoQuery}
+use Rattle.sage.specs.Answers.{Answers, NoQuery}
 
-within : (n : ℕ) (file : List ℕ) → length file ≤ n → take n file ≡ file
+pub within : (n : ℕ) (file : List ℕ) → length file ≤ n → take n file ≡ file
 within n file short =
     let all : min n (length file) ≡ length file = omega (arith, short) in
     sym (take_min n file) ∙ ap (λ k. take k file) all ∙ take-length file

@@ -1,5 +1,5 @@
 -- A store file in memory, opened.
-use Rattle.std.proofs.Common.{◌≡◌, ℕ, ◌+◌, ◌*◌, ◌^◌, ◌<◌, ◌≤◌, ◌⊎◌, suc, List, [], ◌∷◌, ◌++◌, length, take, Some, Result, Ok, Err, IfErr, refl, sym, ap, ◌∙◌, subst, inl, inr, arith}
+use Rattle.std.proofs.Common.{◌≡◌, ℕ, ◌*◌, ◌^◌, ◌<◌, ◌≤◌, ◌⊎◌, suc, List, [], ◌∷◌, ◌++◌, length, take, Some, Result, Ok, Err, IfErr, sym, ap, ◌∙◌, subst, inl, inr, arith}
 use Rattle.std.specs.Result.{IsErr, IsErrAnd}
 use Rattle.std.specs.Prelude.{flat_map, All, replicate}
 use Rattle.std.proofs.Math.Seq.{take-append_seam}
@@ -9,7 +9,7 @@ use Rattle.term_core.specs.declared.pattern.Pattern.{Pattern}
 use Rattle.term_core.specs.Bags.{In}
 use Rattle.term_core.specs.Mappings.{Name}
 use Rattle.term_core.specs.Order.{size_of}
-use Rattle.sparql_tree.specs.Bgp.{parts}
+use Rattle.term_core.specs.Data.{parts}
 use Rattle.nt_text.specs.Limits.{HasShortTerms}
 use Rattle.sage_outside.specs.Causes.{Rose}
 use Rattle.sage_outside.specs.declared.fault.StoreFault.TheVariants as store_faults
@@ -28,7 +28,7 @@ use Rattle.pattern_page.specs.PagesOf.{MayRefuse}
 use Rattle.pattern_page.specs.Followed.{AreFollowed}
 use Rattle.pattern_page.proofs.Refusals.{may_later}
 use Rattle.sage.specs.declared.answer.Answer.{Answer}
-use Rattle.sage.specs.Refusals.{AnswersOr, IsMemory}
+use Rattle.sage.specs.Answers.{AnswersOr, IsMemory}
 
 -- whole blocks are their own image
 count_whole : (n size : ℕ) → size ≡ 4096 * n → n < 2 ^ 32 → 4096 * block_count size ≡ size

@@ -1,4 +1,4 @@
--- Store files on a shelf: made, written in pieces, and told of.
+-- Store files on a shelf: made, written in pieces, and their headers told.
 use Rattle.std.proofs.Common.{◌≡◌, ◌≤◌, ◌⊎◌, ℕ, ◌+◌, ◌-◌, ◌*◌, List, ◌++◌, length, take, drop, Bool, true, false, cond, Option, Some, None, Ok, Err, IfSome, refl, sym, ap, ◌∙◌, subst, inl, inr, arith}
 use Rattle.std.specs.Prelude.{IsSomeAnd}
 use Rattle.std.specs.Str.{bytes_eq}
@@ -16,19 +16,17 @@ use Rattle.sage_outside.specs.BlockLaws.{length_whole}
 use Rattle.store_image.specs.declared.header.Header.{Header}
 use Rattle.store_image.specs.Header.{IsHeader}
 use Rattle.store_image.specs.Holds.{Holds}
-use Rattle.sage.specs.Told.{Tells}
-use Rattle.sage.specs.Data.{IsData, IsRefused}
-use Rattle.sage.specs.Outcome.{HasGot, HasGotFront}
+use Rattle.sage.specs.declared.info_lines.HeaderFault.{HeaderFault}
+use Rattle.sage.specs.declared.info_lines.HeaderFault.TheVariants as faults
+use Rattle.sage.specs.World.{SinkState}
+use Rattle.sage.specs.Ending.{HasGot, HasGotPrefix}
+use Rattle.sage.specs.Data.{IsData}
 use Rattle.sage.specs.InfoLines.{lines_of}
-use Rattle.sage.specs.StoreFiles.{IsWritten, IsWrittenInPart, IsMade, ReadsTriples, WhyNotMade, WhyNotPut, WhyNotBuilt, HasHeader, TellHeader, IsToldOf, IsToldInPart, WhyNotTold}
-use Rattle.sage.specs.declared.store_file.BuildFault.{BuildFault}
-use Rattle.sage.specs.declared.store_file.BuildFault.TheVariants as build
-use Rattle.sage.specs.declared.store_file.InfoFault.{InfoFault}
-use Rattle.sage.specs.declared.store_file.InfoFault.TheVariants as info
+use Rattle.sage.specs.StoreFiles.{IsWritten, IsWrittenInPart, IsMade, TellHeader, IsToldOf, IsToldInPart}
 use Rattle.triple_store.specs.declared.store.OpenFault.TheVariants as open_faults
 use Rattle.sage_outside.specs.Held.{device_of}
-use Rattle.sage.proofs.Fronts.{take_add}
-use Rattle.sage.proofs.Limits.{data_back, refused_back}
+use Rattle.sage.proofs.Prefixes.{take_add}
+use Rattle.sage.proofs.Limits.{data_back}
 use Rattle.sage.proofs.Opened.{one_header, not_refused}
 
 -- ---- maps of files
@@ -70,12 +68,12 @@ piece_written T base files new name bytes done end x le written grown =
     subst (IsWritten base new name) (take_add done (end - done) bytes ∙ ap (λ k. take k bytes) whole)
     (grown_ok T base files new name (take done bytes) (take (end - done) (drop done bytes)) x written grown)
 
-front_of_piece : (bytes : List ℕ) (done k n : ℕ) → n ≤ length (take k (drop done bytes)) → take done bytes ++ take n (take k (drop done bytes)) ≡ take (done + n) bytes
-front_of_piece bytes done k n le =
+prefix_of_piece : (bytes : List ℕ) (done k n : ℕ) → n ≤ length (take k (drop done bytes)) → take done bytes ++ take n (take k (drop done bytes)) ≡ take (done + n) bytes
+prefix_of_piece bytes done k n le =
     let short : n ≤ k = omega (arith, le, length-take k (drop done bytes)) in
     ap (λ t. take done bytes ++ t) (take-take n k (drop done bytes) short) ∙ take_add done n bytes
 
--- or a front of the bytes, where the call failed
+-- or a prefix of the bytes, where the call failed
 pub piece_in_part : (T : Type 0) (base files new : Option Files) (name bytes : List ℕ) (done k : ℕ) (e : ShelfFault) → IsWritten base files name (take done bytes)
     → Grown {T = T} files new name (take k (drop done bytes)) (Err e) → IsWrittenInPart base new name bytes
 piece_in_part T None files new name bytes done k e written grown = inl (subst (λ fs. Grown {T = T} fs new name (take k (drop done bytes)) (Err e)) written grown)
@@ -89,7 +87,7 @@ piece_in_part T (Some m) files new name bytes done k e written grown =
       | inr some ↦ inr (
         done + some.0,
         subst (λ o. IsSomeAnd o (λ old. new ≡ Some (insert F name (old ++ take some.0 piece)))) (there_after m name (take done bytes)) some.2
-            ∙ ap Some (twice_after m name (take done bytes) (take done bytes ++ take some.0 piece) ∙ ap (insert m name) (front_of_piece bytes done k some.0 some.1)),
+            ∙ ap Some (twice_after m name (take done bytes) (take done bytes ++ take some.0 piece) ∙ ap (insert m name) (prefix_of_piece bytes done k some.0 some.1)),
       )
     ])
 
@@ -128,70 +126,23 @@ made_back file read image lines is made = record {
   store = made.store;
 }
 
-pub not_made : (e : BuildFault) (document_name read : List ℕ) (files : Option Files) (before now : ℕ) → ((file : List ℕ) → Tells files document_name file → read ≡ take 268435457 file)
-    → ReadsTriples (Err e) read → WhyNotMade e document_name files before now
-not_made build.Memory document_name read files before now whole why = tt
-not_made (build.Data fault) document_name read files before now whole why = λ file told. refused_back file fault (subst (λ bytes. IsRefused bytes fault) (whole file told) why)
-not_made build.Document document_name read files before now whole why = absurd why
-not_made build.Store document_name read files before now whole why = absurd why
-not_made build.Output document_name read files before now whole why = absurd why
-
--- why a document was not made into a store file, whatever comes of the output
-pub not_built : (e : BuildFault) (document_name store_name : List ℕ) (files after : Option Files) (before now : ℕ) (out_old out_new : Option (List ℕ)) (out_before out_now : ℕ) → after ≡ files
-    → WhyNotMade e document_name files before now → WhyNotBuilt e document_name store_name files after before now out_old out_new out_before out_now
-not_built build.Memory document_name store_name files after before now out_old out_new out_before out_now same why = same
-not_built build.Document document_name store_name files after before now out_old out_new out_before out_now same why = (same, why)
-not_built (build.Data fault) document_name store_name files after before now out_old out_new out_before out_now same why = (same, why)
-not_built build.Store document_name store_name files after before now out_old out_new out_before out_now same why = absurd why
-not_built build.Output document_name store_name files after before now out_old out_new out_before out_now same why = absurd why
-
--- why what was made is not where it belongs
-pub not_put : (e : BuildFault) (document_name store_name image lines image_put lines_put : List ℕ) (files seen after : Option Files) (first before now : ℕ) (out_old out_new : Option (List ℕ)) (out_before out_now : ℕ)
-    → seen ≡ files → first ≤ before → image_put ≡ image → lines_put ≡ lines → ((file : List ℕ) → Tells files document_name file → IsMade file image lines)
-    → WhyNotPut e store_name image_put lines_put seen after before now out_old out_new out_before out_now
-    → WhyNotBuilt e document_name store_name files after first now out_old out_new out_before out_now
-not_put build.Memory document_name store_name image lines image_put lines_put files seen after first before now out_old out_new out_before out_now same later i l made why = absurd why
-not_put build.Document document_name store_name image lines image_put lines_put files seen after first before now out_old out_new out_before out_now same later i l made why = absurd why
-not_put (build.Data fault) document_name store_name image lines image_put lines_put files seen after first before now out_old out_new out_before out_now same later i l made why = absurd why
-not_put build.Store document_name store_name image lines image_put lines_put files seen after first before now out_old out_new out_before out_now same later i l made why =
-    let rose : Rose before now = why.0 in (
-      omega (arith, later, rose),
-      record {
-        image = image;
-        written = subst (λ bytes. IsWrittenInPart files after store_name bytes) i (subst (λ fs. IsWrittenInPart fs after store_name image_put) same why.1);
-        made = λ file told. (let m = made file told in (m.triples, m.is_data, m.store.is_image));
-      },
-    )
-not_put build.Output document_name store_name image lines image_put lines_put files seen after first before now out_old out_new out_before out_now same later i l made why = (
-  why.0,
-  record {
-    lines = lines;
-    built = record {
-      image = image;
-      written = subst (λ bytes. IsWritten files after store_name bytes) i (subst (λ fs. IsWritten fs after store_name image_put) same why.1);
-      made = made;
-    };
-    front = subst (λ bytes. HasGotFront out_old out_new bytes) l why.2;
-  },
-)
-
 -- ---- what is told of a file
 
 -- the lines were put out
-pub told_of : (file lines : List ℕ) (out_old out_new : Option (List ℕ)) → TellHeader (block_at 0 (image_of file)) (block_count (length file)) lines → HasGot out_old out_new lines → IsToldOf file out_old out_new
-told_of file lines out_old out_new told got = record {
+pub told_of : (file lines : List ℕ) (before after : SinkState) → TellHeader (block_at 0 (image_of file)) (block_count (length file)) lines → HasGot before after lines → IsToldOf file before after
+told_of file lines before after told got = record {
   header = told.header;
   is_header = told.is_header;
   of_data = λ triples holds. one_header (block_at 0 (image_of file)) (block_count (length file)) holds.header.blocks told.header holds.header told.is_header holds.is_header;
-  got = subst (λ text. HasGot out_old out_new text) told.tell got;
+  got = subst (λ text. HasGot before after text) told.tell got;
 }
 
--- or a front of them
-pub told_in_part : (file lines : List ℕ) (out_old out_new : Option (List ℕ)) → TellHeader (block_at 0 (image_of file)) (block_count (length file)) lines → HasGotFront out_old out_new lines → IsToldInPart file out_old out_new
-told_in_part file lines out_old out_new told front = record {
+-- or a prefix of them
+pub told_in_part : (file lines : List ℕ) (before after : SinkState) → TellHeader (block_at 0 (image_of file)) (block_count (length file)) lines → HasGotPrefix before after lines → IsToldInPart file before after
+told_in_part file lines before after told prefix = record {
   header = told.header;
   is_header = told.is_header;
-  front = subst (λ text. HasGotFront out_old out_new text) told.tell front;
+  prefix = subst (λ text. HasGotPrefix before after text) told.tell prefix;
 }
 
 -- an opened file has as many blocks as the file fills
@@ -199,28 +150,17 @@ pub count_of_file : (file : List ℕ) (count : ℕ) → length (image_of file) �
 count_of_file file count is = omega (arith, is, length_whole (block_count (length file)) file)
 
 -- over a store file in memory that holds data, memory alone runs out
-pub only_memory : (L : List Triple) (bytes held : List ℕ) (fault : InfoFault) (device now : Device) → Holds L bytes → device.image ≡ Some (image_of bytes)
-    → device ≡ device_of held 0 device.reads → now.faults ≡ 0 → (fault ≡ info.Output → ⊥)
-    → ((image : List ℕ) → TellsBytes device.image image → fault ≡ info.NotAStore → (h : Header) → IsHeader (block_at 0 image) device.count h → ⊥)
-    → (fault ≡ info.File → Rose device.faults now.faults) → fault ≡ info.Memory
-only_memory L bytes held info.Memory device now holds e d none output refused failed = refl
-only_memory L bytes held info.Output device now holds e d none output refused failed = absurd (output refl)
-only_memory L bytes held info.NotAStore device now holds e d none output refused failed =
+pub only_memory : (L : List Triple) (bytes held : List ℕ) (fault : HeaderFault) (device now : Device) → Holds L bytes → device.image ≡ Some (image_of bytes)
+    → device ≡ device_of held 0 device.reads → now.faults ≡ 0
+    → ((image : List ℕ) → TellsBytes device.image image → fault ≡ faults.NotAStore → (h : Header) → IsHeader (block_at 0 image) device.count h → ⊥)
+    → (fault ≡ faults.Unread → Rose device.faults now.faults) → fault ≡ faults.Memory
+only_memory L bytes held faults.Memory device now holds e d none refused failed = refl
+only_memory L bytes held faults.NotAStore device now holds e d none refused failed =
     absurd (not_refused L bytes held open_faults.NotAStore device now holds e d none (inl refl) (λ image told is. refused image told refl) (λ is. absurd cc))
-only_memory L bytes held info.File device now holds e d none output refused failed =
+only_memory L bytes held faults.Unread device now holds e d none refused failed =
     let rose : Rose device.faults now.faults = failed refl in
     let zero : device.faults ≡ 0 = ap (λ (x : Device). x.faults) d in
     absurd (omega (arith, rose, none, zero))
-
--- why a file was not told of
-pub not_told : (e : InfoFault) (seen store_name : List ℕ) (files : Option Files) (before now : ℕ) (out_old out_new : Option (List ℕ)) (out_before out_now : ℕ) → seen ≡ store_name → (e ≡ info.Output → ⊥)
-    → (e ≡ info.File → Lacks files seen ⊎ Rose before now) → ((file : List ℕ) → Tells files seen file → e ≡ info.NotAStore → (h : Header) → HasHeader file h → ⊥)
-    → WhyNotTold e store_name files before now out_old out_new out_before out_now
-not_told info.Memory seen store_name files before now out_old out_new out_before out_now is output failed refused = tt
-not_told info.File seen store_name files before now out_old out_new out_before out_now is output failed refused = subst (λ name. Lacks files name ⊎ Rose before now) is (failed refl)
-not_told info.NotAStore seen store_name files before now out_old out_new out_before out_now is output failed refused =
-    λ file told h has. refused file (subst (λ name. Tells files name file) (sym is) told) refl h has
-not_told info.Output seen store_name files before now out_old out_new out_before out_now is output failed refused = absurd (output refl)
 
 pub tells_bytes : (image : Option (List ℕ)) (bytes : List ℕ) → image ≡ Some bytes → TellsBytes image bytes
 tells_bytes image bytes is = record { told = is }

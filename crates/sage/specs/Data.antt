@@ -1,5 +1,5 @@
 -- The data that the bytes of a file are, or why they are none.
-use Rattle.std.specs.Prelude.{◌≢◌, ◌++◌, ℕ, List, codes}
+use Rattle.std.specs.Prelude.{◌≢◌, ◌++◌, ℕ, List, Result, Ok, Err, codes}
 use Rattle.std.specs.Fmt.{decimal}
 use Rattle.term_core.specs.declared.term.Triple.{Triple}
 use Rattle.nt_text.specs.Grammar.{IsDocument}
@@ -7,6 +7,8 @@ use Rattle.nt_text.specs.Limits.{IsWithinLimits}
 use Rattle.nt_text.specs.Faults.{WhyRefused}
 use Rattle.nt_text.specs.declared.fault.DataFault.{DataFault}
 use Rattle.nt_text.specs.declared.fault.DataFault.TheVariants as data_faults
+use Rattle.sage.specs.declared.refusal.Refusal.{Refusal}
+use Rattle.sage.specs.declared.refusal.Refusal.TheVariants as refusals
 
 -- the bytes are a document within the limits, with these triples
 pub record IsData (bytes : List ℕ) (triples : List Triple) : Type 0 where
@@ -17,6 +19,17 @@ pub record IsData (bytes : List ℕ) (triples : List Triple) : Type 0 where
 pub record IsRefused (bytes : List ℕ) (fault : DataFault) : Type 0 where
   pub why : WhyRefused bytes fault
   pub named : fault ≢ data_faults.Memory
+
+-- the bytes are no document within the limits
+abbrev pub NoData : List ℕ → Type 0
+NoData bytes = (triples : List Triple) → IsData bytes triples → ⊥
+
+-- what the bytes of a document give: its triples, or that it is none within the limits
+abbrev pub ReadsData : Result (List Triple) Refusal → List ℕ → Type 0
+ReadsData (Ok triples) bytes = IsData bytes triples
+ReadsData (Err refusals.Memory) bytes = Unit {0}
+ReadsData (Err (refusals.Data fault)) bytes = IsRefused bytes fault
+ReadsData (Err refusal) bytes = ⊥
 
 -- the message that names the cause; places are counted in bytes from 0, lines from 1
 abbrev pub data_message : DataFault → List ℕ

@@ -1,9 +1,13 @@
+pub mod World
 pub mod Words
-pub mod Told
-pub mod Files
 pub mod Data
-pub mod Outcome
-pub mod Refusals
+pub mod Files
+pub mod Answers
+pub mod Ending
+pub mod Told
 pub mod InfoLines
 pub mod StoreFiles
+pub mod Try
+pub mod Build
+pub mod Info
 pub mod Runs

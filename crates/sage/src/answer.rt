@@ -1,40 +1,26 @@
 // The answer of a query over a document, from the bytes of both.
-ghost use Rattle.std.specs.Prelude.{◌≡◌, ◌≤◌, List, length, string_bytes, IfOk, IfErr};
+ghost use Rattle.std.specs.Prelude.{◌≡◌, ◌≤◌, List, length, string_bytes, All, IfOk, IfErr};
 ghost use Rattle.term_core.specs.declared.term.Triple.{Triple as Triples};
 ghost use Rattle.term_core.specs.declared.pattern.Pattern.{Pattern as Patterns};
+ghost use Rattle.term_core.specs.Order.{IsAllowed};
+ghost use Rattle.term_core.specs.Spelling.{AreSpelled};
 ghost use Rattle.nt_text.specs.Limits.{AreWithinLimits};
 ghost use Rattle.plan_tree.specs.Laws.{AreVariables};
 ghost use Rattle.plan_tree.specs.Pages.{AreQuanta};
 ghost use Rattle.store_image.specs.Holds.{Holds};
 ghost use Rattle.triple_store.specs.Stores.{IsStoreOf};
-ghost use Rattle.triple_store.specs.Ranges.{IsWithin as IsInStore};
+ghost use Rattle.triple_store.specs.Ranges.{IsInStore};
 ghost use Rattle.pattern_page.specs.PagesOf.{IsPart, MayRefuse};
-ghost use Rattle.sage.specs.Outcome.{AnswersOver};
-ghost use Rattle.sage.specs.Refusals.{Answered, AnswersOr, IsMemory, ReadsData, ReadsQuery};
+ghost use Rattle.sage.specs.Answers.{Answered, AnswersOr, AnswersOver, IsMemory, ReadsQuery};
 
-use nt_text::{DataFault, read_document};
+use crate::document::{image_of, read_data};
+use crate::refusal::Refusal;
 use pattern_page::{PageFault, Part, counts_text, follow_pages, push_header};
 use pattern_query::{QueryFault, SelectQuery, read_query};
 use sage_outside::{Blocks, NeverBlocks, StoreFault};
 use std::alloc::Global;
-use store_image::image;
 use term_core::{Items, Memory, Text, Triple};
 use triple_store::Store;
-
-/// Why a command does not do its work.
-#[derive(Debug, Drop)]
-pub enum Refusal {
-    /// Memory ran out.
-    Memory,
-    /// The named file is not there or could not be read.
-    File { name: Text },
-    /// The document is not of the grammar or passes a limit: the first cause.
-    Data { fault: DataFault },
-    /// The query is not of the grammar.
-    Query,
-    /// The output failed.
-    Output,
-}
 
 /// The text of an answer, and the line that says how it was made: the pages, their steps, and the
 /// length in bytes of the longest suspended plan.
@@ -42,17 +28,6 @@ pub enum Refusal {
 pub struct Answer {
     pub text: Vec<u8>,
     pub counts: String,
-}
-
-/// The triples of a document, whose bytes are let go.
-fn read_data(alloc: Global, document: Vec<u8>) -> Result<Items<Triple>, Refusal>
-    ensures { ReadsData result document.items }
-{
-    match read_document(alloc, &document) {
-        Ok(triples) => Ok(triples),
-        Err(DataFault::Memory) => Err(Refusal::Memory),
-        Err(fault) => Err(Refusal::Data { fault }),
-    }
 }
 
 fn read_select(alloc: Global, query: &[u8]) -> Result<SelectQuery, Refusal>
@@ -158,14 +133,6 @@ fn answer_image(
     }
 }
 
-/// The store file of triples, which are let go.
-fn image_of(alloc: Global, triples: Items<Triple>) -> Result<Vec<u8>, Memory>
-    requires { AreWithinLimits triples }
-    ensures { IfOk result (λ image. Holds triples image.items) }
-{
-    image(alloc, triples.as_slice())
-}
-
 /// The answer over triples, by a store file of them in memory, in pages of as many steps as the
 /// quanta say.
 fn answer_over(
@@ -175,6 +142,8 @@ fn answer_over(
     quanta: &[u32],
 ) -> Result<Answer, Memory>
     requires limits { AreWithinLimits triples }
+    requires allowed { All IsAllowed triples }
+    requires spelled { All AreSpelled triples }
     requires some { AreQuanta quanta.now }
     requires variables { AreVariables select.now.names }
     ensures { IfOk result (λ answer. AnswersOver triples select.now.names select.now.pattern quanta.now answer.text.items (string_bytes answer.counts)) }
@@ -189,7 +158,7 @@ fn answer_over(
 ///
 /// `Data` comes exactly where the document is refused, `Query` exactly where the document is not and
 /// the query is.
-pub fn answer_query(
+pub(crate) fn answer_query(
     alloc: Global,
     document: Vec<u8>,
     query: Vec<u8>,

@@ -1,11 +1,13 @@
 // Reading a file, up to a limit.
 ghost use Rattle.std.specs.Prelude.{◌≡◌, ◌≤◌, ◌<◌, ◌+◌, ◌^◌, ℕ, List, length, take, OnOk, IfErr, IfOk};
 ghost use Rattle.sage_outside.specs.Shelf.{Lacks};
-ghost use Rattle.sage.specs.Told.{Tells};
-ghost use Rattle.sage.specs.Files.{WhyUnread};
+ghost use Rattle.sage.specs.Told.{Tells, IsPrefixOf};
+ghost use Rattle.sage.specs.Files.{WhyUnread, WhyNotRead};
 
+use crate::refusal::{Refusal, file_refusal};
 use sage_outside::Shelf;
 use std::alloc::{AllocError, Global};
+use term_core::Text;
 
 /// How many bytes are asked of a file at a time.
 const PIECE: usize = 1 << 20;
@@ -42,7 +44,7 @@ fn read_piece<S: Shelf>(
     ensures later { S.faults shelf.old ≤ S.faults shelf.new }
     ensures longer { IfOk result (λ n. length bytes.new.items ≡ length bytes.old.items + n) }
     ensures room { IfOk result (λ n. n ≤ length buffer.old) }
-    ensures front { (file : List ℕ) → Tells (S.files shelf.old) name.now file → bytes.old.items ≡ take (length bytes.old.items) file
+    ensures prefix { (file : List ℕ) → Tells (S.files shelf.old) name.now file → bytes.old.items ≡ take (length bytes.old.items) file
         → OnOk result (bytes.new.items ≡ take (length bytes.new.items) file) }
     ensures end { (file : List ℕ) → Tells (S.files shelf.old) name.now file → result ≡ Ok 0 → length file ≤ length bytes.old.items }
     ensures why { IfErr result (λ e. WhyUnread e (S.files shelf.old) name.now (S.faults shelf.old) (S.faults shelf.new)) }
@@ -90,7 +92,7 @@ fn make_buffer(alloc: Global) -> Result<Vec<u8>, FileFault>
 }
 
 /// Reads a file to its end, or `wanted` bytes of it. Room for so many as `room` is made at once.
-fn read_front<S: Shelf>(
+fn read_prefix<S: Shelf>(
     alloc: Global,
     shelf: &mut S,
     name: &str,
@@ -109,11 +111,9 @@ fn read_front<S: Shelf>(
     Ok(bytes)
 }
 
-/// Reads a file to its end, or one byte past the limit, which is below 2^62. The length that the
-/// shelf answers serves to make room and nothing else, since a pipe has none.
-///
-/// `File` comes where the file is not there or a call of the shelf failed.
-pub fn read_file<S: Shelf>(
+/// Reads a file to its end, or one byte past the limit. The length that the shelf
+/// answers serves to make room and nothing else, since a pipe has none.
+fn read_file<S: Shelf>(
     alloc: Global,
     shelf: &mut S,
     name: &str,
@@ -131,11 +131,31 @@ pub fn read_file<S: Shelf>(
         Ok(size) => {
             let most = limit + 1;
             let room = size.min(most) as usize;
-            match read_front(alloc, shelf, name, room, most as usize) {
+            match read_prefix(alloc, shelf, name, room, most as usize) {
                 Ok(bytes) => Ok(bytes),
                 Err(fault) => Err(fault),
             }
         }
         Err(_) => Err(FileFault::File),
+    }
+}
+
+/// Reads a file that the words name, to its end or one byte past the limit.
+pub(crate) fn read_named<S: Shelf>(
+    alloc: Global,
+    shelf: &mut S,
+    name: &Text,
+    limit: u64,
+) -> Result<Vec<u8>, Refusal>
+    requires { limit < 2 ^ 62 }
+    ensures same { S.files shelf.new ≡ S.files shelf.old }
+    ensures later { S.faults shelf.old ≤ S.faults shelf.new }
+    ensures prefix { IfOk result (λ bytes. IsPrefixOf (S.files shelf.old) name.now (limit + 1) bytes.items) }
+    ensures why { IfErr result (λ e. WhyNotRead e name.now (S.files shelf.old) (S.faults shelf.old) (S.faults shelf.new)) }
+{
+    match read_file(alloc, shelf, name.as_str(), limit) {
+        Ok(bytes) => Ok(bytes),
+        Err(FileFault::Memory) => Err(Refusal::Memory),
+        Err(FileFault::File) => Err(file_refusal(alloc, name)),
     }
 }

@@ -1,11 +1,27 @@
 // The lines that tell what the header of a store file has.
-ghost use Rattle.std.specs.Prelude.{◌≡◌, ◌<◌, ◌++◌, flat_map, string_bytes, IfOk, OnOk};
+ghost use Rattle.std.specs.Prelude.{◌≡◌, ◌<◌, ◌++◌, ℕ, List, Err, flat_map, string_bytes, IfOk, OnOk};
+ghost use Rattle.sage_outside.specs.Causes.{Rose};
+ghost use Rattle.sage_outside.specs.Blocks.{HasRead, Tells as TellsBytes, block_at};
+ghost use Rattle.store_image.specs.declared.header.Header.{Header as Headers};
+ghost use Rattle.store_image.specs.Header.{IsHeader};
 ghost use Rattle.sage.specs.InfoLines.{hex_digit, hex_byte, hex_of, number_lines, lines_of};
+ghost use Rattle.sage.specs.StoreFiles.{TellHeader};
 
 use sage_outside::Blocks;
 use std::alloc::Global;
 use term_core::Memory;
-use triple_store::{Info, Store};
+use triple_store::{Info, OpenFault, Store};
+
+/// Why there are no lines of a header.
+#[derive(Clone, Copy, Debug, PartialEq, Eq)]
+pub enum HeaderFault {
+    /// Memory ran out.
+    Memory,
+    /// The first block is no header of so many blocks.
+    NotAStore,
+    /// The file is not there, or could not be opened, or its first block could not be read.
+    Unread,
+}
 
 fn hex_digit(n: u8) -> u8
     requires { n < 16 }
@@ -51,7 +67,7 @@ fn number_lines<B: Blocks>(alloc: Global, store: &Store<B>) -> Result<String, Me
 
 /// The six lines that tell what the header of a store has. Nothing is read.
 #[tactic(auto, unfolding(crate::specs::InfoLines::lines_of))]
-pub(crate) fn store_lines<B: Blocks>(alloc: Global, store: &Store<B>) -> Result<Vec<u8>, Memory>
+fn store_lines<B: Blocks>(alloc: Global, store: &Store<B>) -> Result<Vec<u8>, Memory>
     ensures { IfOk result (λ lines. lines.items ≡ lines_of store.now.header) }
 {
     let numbers = number_lines(alloc, store)?;
@@ -60,4 +76,27 @@ pub(crate) fn store_lines<B: Blocks>(alloc: Global, store: &Store<B>) -> Result<
     push_hex(&mut lines, store.data_id())?;
     lines.push(b'\n')?;
     Ok(lines)
+}
+
+/// The lines of the header of blocks, of which the first alone is read, and the blocks, which are
+/// given back whatever came.
+pub(crate) fn header_lines<B: Blocks>(alloc: Global, blocks: B) -> (Result<Vec<u8>, HeaderFault>, B)
+    ensures read { HasRead (B.device blocks) (B.device result.1) 1 }
+    ensures told { (image : List ℕ) → TellsBytes (B.device blocks).image image
+        → IfOk result.0 (λ lines. TellHeader (block_at 0 image) (B.device blocks).count lines.items) }
+    ensures not_a_store { (image : List ℕ) → TellsBytes (B.device blocks).image image
+        → result.0 ≡ Err HeaderFault.NotAStore → (h : Headers) → IsHeader (block_at 0 image) (B.device blocks).count h → ⊥ }
+    ensures failed { result.0 ≡ Err HeaderFault.Unread → Rose (B.device blocks).faults (B.device result.1).faults }
+{
+    match Store::open(blocks) {
+        Ok(store) => match store_lines(alloc, &store) {
+            Ok(lines) => (Ok(lines), store.close()),
+            Err(_) => (Err(HeaderFault::Memory), store.close()),
+        },
+        Err(unopened) => match unopened.fault {
+            OpenFault::NotAStore => (Err(HeaderFault::NotAStore), unopened.blocks),
+            OpenFault::Blocks => (Err(HeaderFault::Unread), unopened.blocks),
+            _ => unreachable!(),
+        },
+    }
 }

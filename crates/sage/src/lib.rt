@@ -2,14 +2,16 @@
 #![tactic(auto)]
 
 mod answer;
+mod build;
+mod document;
+mod ending;
 mod file;
+mod info;
 mod info_lines;
-mod store_file;
+mod refusal;
 mod top;
+mod try_query;
 mod words;
-mod work;
 
-pub use answer::{Answer, Refusal, answer_query};
-pub use file::{FileFault, read_file};
 pub use top::run;
 pub use words::{Command, WordsFault, read_words};

@@ -1,17 +1,7 @@
 //! The program `sage`: the real files, output and errors, and the top call.
 #![tactic(auto)]
 
-#[cfg(test)]
-mod document_tests;
-#[cfg(test)]
-mod query_tests;
-#[cfg(test)]
-mod store_tests;
-#[cfg(test)]
-mod tests;
 mod usage;
-#[cfg(test)]
-mod words_tests;
 
 use sage::run;
 use sage_outside::{FileShelf, NoDoor, NoLink, WriteSink};

@@ -2,7 +2,7 @@ use Rattle.std.proofs.Common.{IfErr, refl, subst, arith}
 use Rattle.sage_outside.specs.Held.{never_device}
 use Rattle.triple_store.specs.Stores.{View}
 use Rattle.pattern_page.specs.PagesOf.{MayRefuse}
-use Rattle.sage.specs.Refusals.{AnswersOr}
+use Rattle.sage.specs.Answers.{AnswersOr}
 use Rattle.sage.proofs.Opened.{told_whole, memory_alone}
 use Rattle.sage.proofs.answer.answer_image.Goals as goal
 

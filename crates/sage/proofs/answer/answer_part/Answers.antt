@@ -1,8 +1,7 @@
-use Rattle.std.proofs.Common.{Err, ◌∙◌, ◌++◌, ap, subst}
+use Rattle.std.proofs.Common.{◌∙◌, ◌++◌, ap}
 use Rattle.std.specs.Prelude.{flat_map}
 use Rattle.plan_tree.specs.Pages.{rows_in}
 use Rattle.pattern_page.specs.Results.{header, line}
-use Rattle.pattern_page.specs.Followed.{AreFollowed}
 use Rattle.sage.proofs.Answering.{answers_over, counted_pages}
 use Rattle.sage.proofs.Opened.{counts_refused}
 use Rattle.sage.proofs.answer.answer_part.Goals as goal

@@ -6,7 +6,7 @@ abbrev pub invariant-pieces : goal.invariant-pieces
 invariant-pieces g l = record {
   same : g.S.Shelf.files l.shelf ≡ g.S.Shelf.files l.fn.shelf;
   later : g.S.Shelf.faults l.fn.shelf ≤ g.S.Shelf.faults l.shelf;
-  front : (file : List ℕ) → Tells (g.S.Shelf.files l.fn.shelf) l.name file → l.fn.bytes.items ≡ take (length l.fn.bytes.items) file → l.bytes.items ≡ take (length l.bytes.items) file;
+  prefix : (file : List ℕ) → Tells (g.S.Shelf.files l.fn.shelf) l.name file → l.fn.bytes.items ≡ take (length l.fn.bytes.items) file → l.bytes.items ≡ take (length l.bytes.items) file;
   fits : length l.bytes.items ≤ l.wanted;
   room : 0 < length l.buffer;
 }

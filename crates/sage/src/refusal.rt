@@ -1,0 +1,36 @@
+// Why a command does not do its work.
+ghost use Rattle.sage.specs.Ending.{Names};
+
+use nt_text::DataFault;
+use std::alloc::Global;
+use term_core::Text;
+
+/// Why a command does not do its work: one type for all commands, since each status but 0 is that of
+/// one of these.
+#[derive(Debug, Drop)]
+pub enum Refusal {
+    /// Memory ran out.
+    Memory,
+    /// The words spell no command.
+    Words,
+    /// The named file is not there, or could not be read or written.
+    File { name: Text },
+    /// The document is not of the grammar or passes a limit: the first cause.
+    Data { fault: DataFault },
+    /// The file begins with no header of a store file of so many blocks.
+    NotAStore,
+    /// The query is not of the grammar.
+    Query,
+    /// The output failed.
+    Output,
+}
+
+/// The refusal that names a file, or want of memory for its name.
+pub(crate) fn file_refusal(alloc: Global, name: &Text) -> Refusal
+    ensures { Names name.now result }
+{
+    match name.copy(alloc) {
+        Ok(name) => Refusal::File { name },
+        Err(_) => Refusal::Memory,
+    }
+}
