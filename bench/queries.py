@@ -1,26 +1,33 @@
 #!/usr/bin/env python3
-"""Times the reading of queries up to the longest that is accepted, by the program `query_check`.
+"""Times the reading of queries up to the longest that is accepted.
 
-Usage: bench/queries.py PROGRAM [--runs N] [--only WORD]
+Usage: bench/queries.py [--runs N] [--only WORD]
 
-PROGRAM is the built program `query_check`. Each query is made by a fixed rule, of as many pieces as fit into 65,536,
-131,072 and 262,144 bytes. The table has the answer, the processor seconds of the best of three runs at each size, the growth from
-size to size (2 where the time is linear), and the peak memory at the last size. A query that is answered otherwise than
-its rule says stops the benchmark. Below the table stand the queries that miss the aim, one second at 262,144 bytes.
-Only Python's standard library is used.
+What reads is `sparql_read::read_query` in a small program, bench/query_reader.txt. It is built in bench/out/reader, a copy of the
+crates with the program beside them; the first build proves what it stands on, which takes some minutes. Each query is made by a
+fixed rule, of as many pieces as fit into 65,536, 131,072 and 262,144 bytes. The table has the answer, the processor seconds of the
+best of three runs at each size, the growth from size to size (2 where the time is linear), and the peak memory at the last size. A
+query that is answered otherwise than its rule says stops the benchmark. Below the table stand the queries that miss the
+aim, one second at 262,144 bytes. Only Python's standard library is used.
 """
 
 import argparse
 import os
+import pathlib
+import shutil
 import subprocess
 import sys
 import tempfile
+
+ROOT = pathlib.Path(__file__).resolve().parent.parent
+READER = ROOT / "bench" / "out" / "reader"
+STANDS_ON = ["term_core", "xsd_num", "sparql_tree", "sparql_lex", "sparql_symbol", "sparql_grammar", "sparql_scope", "sparql_read"]
 
 SIZES = [65_536, 131_072, 262_144]
 AIM = 1.0
 ACCEPTED = "accepted"
 NO_QUERY = "not a query"
-TOO_MUCH = "too large written"
+MEMORY = "memory"
 
 
 def filled(size, head, piece, tail):
@@ -134,7 +141,7 @@ QUERIES = [
     ("blank nodes in alternating graph patterns", in_group(lambda n: f"_:b{n} ?p _:c{n} {{}}"), ACCEPTED),
     ("a long string with escapes", in_filter('?a = "', lambda n: "\\n\\u00e9", '"'), ACCEPTED),
     ("a string in three quotes", in_filter('?a = """', lambda n: 'a"b""c', 'd"""'), ACCEPTED),
-    ("three quotes that do not end", in_group(lambda n: "'''\\" if n == 0 else "'a'\\"), "lex 17"),
+    ("three quotes that do not end", in_group(lambda n: "'''\\" if n == 0 else "'a'\\"), "lex"),
     ("a long IRI", lambda size: filled(size, "SELECT * { ?s ?p <a:", lambda n: "b", ">}"), ACCEPTED),
     ("signs that begin no IRI", in_filter("?a", lambda n: "<?a" if n == 0 else "||?a<?a", ""), ACCEPTED),
     ("a long name", lambda size: filled(size, "SELECT * { ?s ?p ?", lambda n: "n", "}"), ACCEPTED),
@@ -142,44 +149,35 @@ QUERIES = [
     ("words with points between, and no colon", in_group(lambda n: "a."), NO_QUERY),
     ("words with signs between, and no colon", in_group(lambda n: "a-"), NO_QUERY),
     ("points behind a name", in_group(lambda n: "_:a" if n == 0 else "."), NO_QUERY),
-    ("a long number, out of range", lambda size: filled(size, "SELECT * { ?s ?p ", lambda n: "7", "}"), "unsupported 7777777777.."),
+    ("a long number, out of range", lambda size: filled(size, "SELECT * { ?s ?p ", lambda n: "7", "}"), "unsupported"),
     ("a long number of zeros", lambda size: filled(size, "SELECT * { ?s ?p ", lambda n: "0", "7}"), ACCEPTED),
-    ("a long decimal, out of range", lambda size: filled(size, "SELECT * { ?s ?p 0.", lambda n: "7", "}"), "unsupported 0.77777777.."),
+    ("a long decimal, out of range", lambda size: filled(size, "SELECT * { ?s ?p 0.", lambda n: "7", "}"), "unsupported"),
     ("only comments", lambda size: filled(size, "", lambda n: f"# {n}\n", ""), NO_QUERY),
     ("only blanks", lambda size: " " * size, NO_QUERY),
     ("only open braces, 256", lambda size: filled(size, "SELECT *" + "{" * 256, triple, ""), NO_QUERY),
     ("braces that close none", lambda size: "}" * size, NO_QUERY),
-    ("names that write out nearly the most", names(lambda size: 208), ACCEPTED),
-    ("objects that write out nearly the most", objects(lambda size: 185), ACCEPTED),
-    ("objects of a verb that write out nearly the most", objects_of_verb(lambda size: 185), ACCEPTED),
-    ("verbs that write out nearly the most", verbs(lambda size: 370), ACCEPTED),
-    ("cells that write out nearly the most", cells(lambda size: 125), ACCEPTED),
-    ("names that write out more, half of the text each", names(half), TOO_MUCH),
-    ("objects that write out more", objects(half), TOO_MUCH),
-    ("objects of a verb that write out more", objects_of_verb(half), TOO_MUCH),
-    ("verbs that write out more", verbs(half), TOO_MUCH),
-    ("cells that write out more", cells(half), TOO_MUCH),
-    ("the last token is no token", lexical_fault, lambda size: f"lex {size - 1}"),
+    ("names that abbreviate much", names(lambda size: 208), ACCEPTED),
+    ("objects that abbreviate much", objects(lambda size: 185), ACCEPTED),
+    ("objects of a verb that abbreviate much", objects_of_verb(lambda size: 185), ACCEPTED),
+    ("verbs that abbreviate much", verbs(lambda size: 370), ACCEPTED),
+    ("cells that abbreviate much", cells(lambda size: 125), ACCEPTED),
+    ("names that abbreviate more than is held, at the last size", names(half), lambda size: MEMORY if size > 200_000 else ACCEPTED),
+    ("the last token is no token", lexical_fault, "lex"),
     ("the last token is wrong", missing_brace, NO_QUERY),
-    ("the last variable is bound before", lambda size: filled(size, "SELECT * {", lambda n: f"BIND(1 AS ?v{n})", "BIND(1 AS ?v0)}"), "scope ?v0"),
-    ("the last label stands in the first pattern", lambda size: filled(size, "SELECT * {", lambda n: f"_:b{n} ?p ?o {{}}", "_:b0 ?p ?o}"), "scope _:b0"),
-    ("the last word is not supported", lambda size: filled(size, "SELECT * {", triple, "SERVICE"), "unsupported SERVICE"),
+    ("the last variable is bound before", lambda size: filled(size, "SELECT * {", lambda n: f"BIND(1 AS ?v{n})", "BIND(1 AS ?v0)}"), "scope"),
+    ("the last label stands in the first pattern", lambda size: filled(size, "SELECT * {", lambda n: f"_:b{n} ?p ?o {{}}", "_:b0 ?p ?o}"), "scope"),
+    ("the last word is not supported", lambda size: filled(size, "SELECT * {", triple, "SERVICE"), "unsupported"),
 ]
-
-
-def shortened(line):
-    """A line of at most 24 characters, for the table."""
-    return line if len(line) <= 24 else line[:22] + ".."
 
 
 def told(program, path):
     """What the program tells of a text, its processor seconds, and its peak memory in bytes."""
     with open(path, "rb") as text:
         child = subprocess.Popen([program], stdin=text, stdout=subprocess.PIPE)
-        line = shortened(child.stdout.read().decode(errors="replace").strip())
+        line = child.stdout.read().decode(errors="replace").strip()
         _, status, usage = os.wait4(child.pid, 0)
     child.returncode = os.waitstatus_to_exitcode(status)
-    if child.returncode not in (0, 1):
+    if child.returncode != 0:
         sys.exit(f"{program} ended with {child.returncode} on {path}")
     return line, usage.ru_utime + usage.ru_stime, usage.ru_maxrss * 1024
 
@@ -212,13 +210,29 @@ def table(program, path, given):
     return [name for name, rule, answer in chosen if row(program, path, name, rule, answer, given.runs) >= AIM]
 
 
+def built():
+    """The program, built anew where a source changed."""
+    home = READER / "crates" / "query_reader"
+    (home / "src").mkdir(parents=True, exist_ok=True)
+    for crate in STANDS_ON:
+        for part in ["src", "specs", "proofs"]:
+            shutil.copytree(ROOT / "crates" / crate / part, READER / "crates" / crate / part, dirs_exist_ok=True)
+    shutil.copyfile(ROOT / "bench" / "query_reader.txt", home / "src" / "main.rt")
+    lines = (ROOT / "crates.txt").read_text(encoding="utf-8").splitlines()
+    kept = [line for line in lines if line.split(":")[0].split(" ")[0] in STANDS_ON]
+    (READER / "crates.txt").write_text("\n".join([*kept, f"query_reader: {' '.join(STANDS_ON)}"]) + "\n", encoding="utf-8")
+    done = subprocess.run(["rt", "run"], cwd=home, input=b"SELECT * {}", capture_output=True, check=False)
+    if done.returncode != 0:
+        sys.exit(done.stdout.decode(errors="replace")[-2000:] + done.stderr.decode(errors="replace")[-2000:])
+    return home / "out" / "query_reader"
+
+
 def main():
     parser = argparse.ArgumentParser(description=__doc__.split("\n")[0])
-    parser.add_argument("program")
     parser.add_argument("--runs", type=int, default=3)
     parser.add_argument("--only", default="", help="the queries with this in their name")
     given = parser.parse_args()
-    program = os.path.abspath(given.program)
+    program = built()
     with tempfile.TemporaryDirectory() as scratch:
         path = os.path.join(scratch, "query.rq")
         for name in table(program, path, given):
