@@ -6,11 +6,11 @@ use Rattle.std.proofs.Math.Utf8.{low_scalar, scalar_cases}
 use Rattle.std.proofs.lemmas.Bool.Decides.{nat_tests}
 use Rattle.std.specs.List.{list_all}
 use Rattle.std.specs.Char.{IsScalar, digit_value}
-use Rattle.term_core.specs.Characters.{is_hex, is_iri, AreAll}
+use Rattle.term_core.specs.Characters.{is_hex, is_iri, AreAll, is_scalar}
 use Rattle.term_core.specs.Escapes.{IsUchar, IsIriEscape, IsStringEscape, echar_value, hex_number, hex_onto}
 use Rattle.nt_text.specs.declared.escapes.Quoted.{Quoted}
 use Rattle.nt_text.specs.declared.escapes.Quoted.TheVariants as quoted
-use Rattle.nt_text.specs.Reading.{◌>>=◌, expect, head_at, digit_at, four_at, eight_at, is_scalar, scalar_of, uchar_by, iri_escape, echar_or, escape_by, escape_at}
+use Rattle.nt_text.specs.Reading.{◌>>=◌, expect, head_at, digit_at, four_at, eight_at, scalar_of, uchar_by, iri_escape, echar_or, escape_by, escape_at}
 use Rattle.nt_text.proofs.Steps.{bind_some, guard_some, some_is, expect_is}
 
 abbrev pub Cut : Type 0

@@ -5,11 +5,11 @@ use Rattle.std.proofs.Math.Utf8.{encode}
 use Rattle.std.proofs.lemmas.Str.{encodes-append, encodes-chars}
 use Rattle.std.specs.Str.{IsUtf8}
 use Rattle.std.specs.Char.{digit_value}
-use Rattle.term_core.specs.Characters.{is_hex, is_iri, front, after}
+use Rattle.term_core.specs.Characters.{is_hex, is_iri, front, after, is_scalar}
 use Rattle.term_core.specs.Escapes.{echar_value}
 use Rattle.nt_text.specs.declared.escapes.Quoted.{Quoted}
 use Rattle.nt_text.specs.declared.escapes.Quoted.TheVariants as quoted
-use Rattle.nt_text.specs.Reading.{◌>>=◌, head_at, digit_at, four_at, eight_at, is_scalar, scalar_of, uchar_by, echar_or, escape_by, escape_at, plain_in, onto, spelled_on, spelled_in, spelled_at}
+use Rattle.nt_text.specs.Reading.{◌>>=◌, head_at, digit_at, four_at, eight_at, scalar_of, uchar_by, echar_or, escape_by, escape_at, plain_in, onto, spelled_on, spelled_in, spelled_at}
 use Rattle.nt_text.proofs.Cut.{parts}
 
 -- what was read leaves less of the text

@@ -6,7 +6,7 @@ use Rattle.std.specs.Str.Lossy.{utf8_valid_len}
 use Rattle.term_core.specs.Order.{size_of}
 use Rattle.term_core.specs.Texts.{xsd_string}
 use Rattle.term_core.specs.Spelling.{lang_string}
-use Rattle.term_core.specs.Characters.{is_hex, is_iri, is_letter, front, after, begins}
+use Rattle.term_core.specs.Characters.{is_hex, is_iri, is_letter, front, after, begins, is_scalar}
 use Rattle.term_core.specs.Escapes.{echar_value}
 use Rattle.term_core.specs.Names.{has_scheme, is_label_first, is_label_part, is_alphanumeric}
 use Rattle.term_core.specs.declared.term.Term.{Term}
@@ -58,10 +58,6 @@ four_at text = do
   c ← digit_at b.1
   d ← digit_at c.1
   Some (((a.0 * 16 + b.0) * 16 + c.0) * 16 + d.0, d.1)
-
--- a Unicode scalar value (Unicode, definition D76)
-abbrev pub is_scalar : ℕ → Bool
-is_scalar n = nat_lt n 0xD800 || (not (nat_lt n 0xE000) && nat_lt n 0x110000)
 
 -- the character of a number, if it has one
 abbrev pub scalar_of : ℕ × List ℕ → Option (ℕ × List ℕ)

@@ -4,7 +4,7 @@ use Rattle.std.specs.Prelude.{if◌then◌else◌}
 use Rattle.std.specs.Str.{bytes_eq}
 use Rattle.std.proofs.lemmas.Slice.Eq.{bytes_eq-Decides}
 use Rattle.term_core.specs.Spelling.{lang_string}
-use Rattle.term_core.specs.Texts.{xsd_string}
+use Rattle.term_core.specs.Texts.{xsd_string, xsd_boolean}
 use Rattle.term_core.specs.declared.term.Term.{Term}
 use Rattle.term_core.specs.declared.term.Term.TheVariants as terms
 use Rattle.sparql_tree.specs.declared.symbol.Shape.{Shape}
@@ -13,7 +13,7 @@ use Rattle.sparql_tree.specs.declared.symbol.Symbol.{Symbol}
 use Rattle.sparql_tree.specs.Heads.{Is, is, Holds, holds}
 use Rattle.sparql_grammar.specs.Parser.{Parser, next, value, refuse, pure}
 use Rattle.sparql_tree.specs.Heads.{head}
-use Rattle.sparql_tree.specs.Terms.{IsNumber, integer, decimal, IsTerm, iri, plain, tagged, typed, number, plus, minus, boolean, literal, xsd_boolean}
+use Rattle.sparql_tree.specs.Terms.{IsNumber, integer, decimal, IsTerm, iri, plain, tagged, typed, number, plus, minus, boolean, literal}
 use Rattle.sparql_grammar.specs.TermReading as r
 use Rattle.sparql_grammar.proofs.Steps.{is-next, holds-next, is-head, holds-head, is-shorter, holds-shorter, Good, weaken, Finds}
 

@@ -3,13 +3,13 @@ use Rattle.std.specs.Prelude.{◌++◌, List, [], ℕ, codes, Option, Some, if�
 use Rattle.std.specs.Str.{bytes_eq}
 use Rattle.term_core.specs.Numbers.{xsd_integer, xsd_decimal}
 use Rattle.term_core.specs.Spelling.{lang_string}
-use Rattle.term_core.specs.Texts.{xsd_string}
+use Rattle.term_core.specs.Texts.{xsd_string, xsd_boolean}
 use Rattle.term_core.specs.declared.term.Term.{Term}
 use Rattle.term_core.specs.declared.term.Term.TheVariants as terms
 use Rattle.sparql_tree.specs.declared.symbol.Shape.{Shape}
 use Rattle.sparql_tree.specs.declared.symbol.Shape.TheVariants as s
 use Rattle.sparql_grammar.specs.Parser.{Parser, ◌>>=◌, ◌>>◌, ◌<$>◌, pure, refuse, peek, take, spelled}
-use Rattle.sparql_tree.specs.Terms.{literal, xsd_boolean}
+use Rattle.sparql_tree.specs.Terms.{literal}
 
 abbrev pub number_by : List ℕ → Option Shape → Parser Term
 number_by sign (Some s.Integer) = (λ digits. literal (sign ++ digits) xsd_integer) <$> spelled

@@ -8,7 +8,8 @@ use Rattle.sparql_tree.specs.Exprs.{Expr, exprs, operands}
 use Rattle.sparql_tree.specs.declared.symbol.Shape.{Shape}
 use Rattle.sparql_tree.specs.declared.symbol.Symbol.{Symbol}
 use Rattle.sparql_tree.specs.Heads.{Is, is, Holds, holds}
-use Rattle.sparql_tree.specs.Terms.{IsNumber, integer, decimal, IsTerm, xsd_boolean}
+use Rattle.term_core.specs.Texts.{xsd_boolean}
+use Rattle.sparql_tree.specs.Terms.{IsNumber, integer, decimal, IsTerm}
 use Rattle.sparql_tree.specs.Terms as terms_of
 use Rattle.sparql_tree.specs.Expressions.{IsDistinct, distinct, not_distinct, IsExpr, or, OrTail, or_end, or_more, IsAnd, and, AndTail, and_end, and_more, IsRel, rel_one, rel_compare, rel_in, rel_not_in, IsList, list_none, list_some, ListTail, list_end, list_more, IsSum, sum, SumTail, sum_end, sum_plus, sum_minus, IsProduct, product, ProductTail, product_end, product_times, product_over, IsUnary, bare, not, plus, minus, IsAtom, constant, variable, parens, called, aggregated, IsCall, call, bound, IsAggregate, count_all, aggregate}
 use Rattle.nt_text.proofs.SpelledTerms.{string_is_iri, string_is_plain}

@@ -5,14 +5,14 @@ use Rattle.std.proofs.lemmas.Bool.Decides.{nat_tests}
 use Rattle.std.proofs.Math.Utf8.{scalar_cases}
 use Rattle.std.specs.List.{list_all}
 use Rattle.std.specs.Char.{IsScalar, digit_value}
-use Rattle.term_core.specs.Characters.{is_hex, is_iri, AreAll}
+use Rattle.term_core.specs.Characters.{is_hex, is_iri, AreAll, is_scalar}
 use Rattle.term_core.specs.Escapes.{IsUchar, IsStringEscape, IsIriBody, IsEscaped, nothing, character, escape, echar_value, hex_onto}
 use Rattle.std.specs.Prelude.{codes}
 use Rattle.term_core.specs.Terminals.{is_plain_in, is_long_plain, is_quote, IsLongBody}
 use Rattle.term_core.specs.Terminals as long
 use Rattle.sparql_lex.proofs.Bools.{among}
 use Rattle.sparql_symbol.specs.declared.undoing.Place.TheVariants as places
-use Rattle.sparql_symbol.specs.Undoing.{undone, with_digit, hex_value, is_scalar}
+use Rattle.sparql_symbol.specs.Undoing.{undone, with_digit, hex_value}
 
 -- each number on the way is no greater than the last
 hex_onto-grows : (number : ℕ) (digits : List ℕ) → number ≤ hex_onto number digits

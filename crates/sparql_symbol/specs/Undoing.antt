@@ -1,6 +1,7 @@
 -- Escapes undone from left to right, character by character (SPARQL 1.1, 19.2 and 19.8).
 use Rattle.std.specs.Prelude.{ℕ, Bool, ◌+◌, ◌-◌, ◌*◌, ◌^◌, min, nat_lt, nat_le, not, ◌&&◌, ◌||◌, ◌==◌, List, [], ◌∷◌, Option, Some, None, if◌then◌else◌}
 use Rattle.std.specs.Char.{digit_value}
+use Rattle.term_core.specs.Characters.{is_scalar}
 use Rattle.term_core.specs.Escapes.{echar_value}
 use Rattle.sparql_symbol.specs.declared.undoing.Place.{Place}
 use Rattle.sparql_symbol.specs.declared.undoing.Place.TheVariants as places
@@ -30,10 +31,6 @@ hex_value c = if nat_lt (digit_value c) 16 then digit_value c else 0
 -- the number with one more digit, if it has 32 bits
 abbrev pub with_digit : ℕ → ℕ → ℕ
 with_digit number c = min (min (number * 16) (2 ^ 32 - 1) + hex_value c) (2 ^ 32 - 1)
-
--- a Unicode scalar value (Unicode, definition D76)
-abbrev pub is_scalar : ℕ → Bool
-is_scalar n = nat_lt n 0xD800 || (not (nat_lt n 0xE000) && nat_lt n 0x110000)
 
 -- the character of a number, if it has one
 abbrev pub char_of : ℕ → Option ℕ

@@ -2,16 +2,12 @@
 use Rattle.std.specs.Prelude.{◌≢◌, ◌++◌, ℕ, List, [], codes}
 use Rattle.term_core.specs.Numbers.{xsd_integer, xsd_decimal}
 use Rattle.term_core.specs.Spelling.{lang_string}
-use Rattle.term_core.specs.Texts.{xsd_string}
+use Rattle.term_core.specs.Texts.{xsd_string, xsd_boolean}
 use Rattle.term_core.specs.declared.term.Term.{Term}
 use Rattle.term_core.specs.declared.term.Term.TheVariants as terms
 use Rattle.sparql_tree.specs.declared.symbol.Shape.TheVariants as s
 use Rattle.sparql_tree.specs.declared.symbol.Symbol.{Symbol}
 use Rattle.sparql_tree.specs.Heads.{Is, Holds}
-
--- the datatype of true and false (XML Schema 1.1 Datatypes, section 3.3.2)
-abbrev pub xsd_boolean : List ℕ
-xsd_boolean = codes "http://www.w3.org/2001/XMLSchema#boolean"
 
 -- a literal without a tag
 abbrev pub literal : List ℕ → List ℕ → Term

@@ -15,6 +15,10 @@ is_between first last c = nat_le first c && nat_le c last
 abbrev pub is_in_ranges : List (ℕ × ℕ) → ℕ → Bool
 is_in_ranges ranges c = list_any (λ range. is_between range.0 range.1 c) ranges
 
+-- a Unicode scalar value (Unicode, definition D76)
+abbrev pub is_scalar : ℕ → Bool
+is_scalar n = nat_lt n 0xD800 || (not (nat_lt n 0xE000) && nat_lt n 0x110000)
+
 -- 0 to 9
 abbrev pub is_digit : ℕ → Bool
 is_digit c = is_between 48 57 c

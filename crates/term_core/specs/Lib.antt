@@ -12,6 +12,7 @@ pub mod Spelling
 pub mod Terminals
 pub mod Tokens
 pub mod Numbers
+pub mod Literals
 pub mod Patterns
 pub mod Index
 pub mod Data

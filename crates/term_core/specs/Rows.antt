@@ -16,9 +16,9 @@ abbrev pub AreSorted : RowEntries → Type 0
 AreSorted es = T (is_sorted bytes_cmp es)
 
 -- a place where the name stands, so that setting it there puts it; or one where it goes in, if it stands nowhere
-abbrev pub IsPlace : Result ℕ ℕ → RowEntries → List ℕ → Type 0
-IsPlace (Ok at) es name = (at < length es) × ((v : Term) → put bytes_cmp name v es ≡ slice_set es at (name, v))
-IsPlace (Err at) es name = (at ≤ length es) × ((v : Term) → put bytes_cmp name v es ≡ insert es at (name, v))
+abbrev pub IsRowPlace : Result ℕ ℕ → RowEntries → List ℕ → Type 0
+IsRowPlace (Ok at) es name = (at < length es) × ((v : Term) → put bytes_cmp name v es ≡ slice_set es at (name, v))
+IsRowPlace (Err at) es name = (at ≤ length es) × ((v : Term) → put bytes_cmp name v es ≡ insert es at (name, v))
 
 -- an entry by its name's bytes
 abbrev pub named_term : String Global × Term → List ℕ × Term

@@ -9,6 +9,10 @@ use Rattle.term_core.specs.declared.term.Triple.{Triple}
 abbrev pub xsd_string : List ℕ
 xsd_string = codes "http://www.w3.org/2001/XMLSchema#string"
 
+-- the datatype of truth values (XML Schema 1.1 Datatypes, section 3.3.2)
+abbrev pub xsd_boolean : List ℕ
+xsd_boolean = codes "http://www.w3.org/2001/XMLSchema#boolean"
+
 -- a byte of a string: a backslash, a quote, a line feed and a carriage return are escaped (N-Triples, ECHAR)
 abbrev pub escaped : ℕ → List ℕ
 escaped b = if b == 92 then 92 ∷ 92 ∷ [] else if b == 34 then 92 ∷ 34 ∷ [] else if b == 10 then 92 ∷ 110 ∷ [] else if b == 13 then 92 ∷ 114 ∷ [] else b ∷ []

@@ -4,7 +4,7 @@ ghost use Rattle.std.specs.Prelude.{◌≡◌, OnOk, OnErr, IfOk, slice_get, opt
 ghost use Rattle.std.specs.Option.{option_copied};
 ghost use Rattle.std.specs.FinMap as map;
 ghost use Rattle.term_core.specs.Order.{bytes_cmp};
-ghost use Rattle.term_core.specs.Rows.{AreSorted, IsPlace};
+ghost use Rattle.term_core.specs.Rows.{AreSorted, IsRowPlace};
 
 use crate::{Memory, Term, Text};
 use std::alloc::Global;
@@ -134,7 +134,7 @@ fn find<'a>(entries: &'a [(Text, Term)], name: &[u8]) -> Option<&'a Term>
 
 // Where the name stands, or else where it goes.
 fn place(entries: &[(Text, Term)], name: &[u8]) -> Result<usize, usize>
-    ensures { IsPlace result entries.now name.now }
+    ensures { IsRowPlace result entries.now name.now }
 {
     for (at, entry) in entries.iter().enumerate() {
         match name.cmp(entry.0.bytes()) {

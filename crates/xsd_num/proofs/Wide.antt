@@ -4,7 +4,7 @@ use Rattle.std.proofs.lemmas.Grind.{common_steps}
 use Rattle.std.specs.Prelude.{Option, Some, None, ◌&&◌, not, nat_lt, IfSome, is_none}
 use Rattle.term_core.specs.Numbers.{Number, Whole, Bounds, signed, digits_value, is_held, is_within, is_from, is_up_to, is_minus, behind_sign, are_digits, is_empty, is_type, xsd_decimal, bounds_of, is_decimal, decimal_value, is_integer, integer_value, read, read_integer, read_decimal}
 use Rattle.xsd_num.specs.Values.{held, is_open, AreHeld}
-use Rattle.xsd_num.specs.Literals.{Form, exact_or_wide, decimal_form, integer_form, form_of, number_in}
+use Rattle.term_core.specs.Literals.{Form, exact_or_wide, decimal_form, integer_form, form_of, number_in}
 
 above_from : (low : Option ℤ) (n : ℕ) → IfSome low (λ m. is_held m ≡ true) → nat_lt n (2 ^ 127) ≡ false → is_from low (pos n) ≡ true
 above_from None n h past = refl

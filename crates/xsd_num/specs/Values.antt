@@ -8,7 +8,7 @@ use Rattle.xsd_num.specs.declared.num.NumFault.{NumFault}
 use Rattle.xsd_num.specs.declared.num.NumFault.TheVariants.{Range, Zero}
 use Rattle.xsd_num.specs.declared.num.NumForm.{NumForm}
 use Rattle.xsd_num.specs.declared.num.NumForm.TheVariants.{Exact, Wide, Outside, Other}
-use Rattle.xsd_num.specs.Literals as literals
+use Rattle.term_core.specs.Literals as literals
 
 -- the number
 abbrev pub number_of : Num → Number

@@ -5,7 +5,7 @@ ghost use Rattle.term_core.specs.Characters.{is_digit};
 ghost use Rattle.term_core.specs.Numbers.{are_digits, value_after, is_minus, behind_sign, before_point, behind_point, is_empty};
 ghost use Rattle.term_core.specs.Numbers.{trimmed, least_decimal, is_kept, bounds_of, is_from, is_up_to, is_within, is_decimal, signed, digits_value};
 ghost use Rattle.term_core.specs.Numbers as numbers;
-ghost use Rattle.xsd_num.specs.Literals as literals;
+ghost use Rattle.term_core.specs.Literals as literals;
 ghost use Rattle.xsd_num.specs.Values.{number_of, found, held, below, form_in, is_open, IsKeptForm, AreHeld};
 
 use crate::exact::{held_decimal, signed};

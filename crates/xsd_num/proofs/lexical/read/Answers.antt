@@ -1,5 +1,5 @@
 use Rattle.std.proofs.Common.{◌∙◌, ap}
-use Rattle.xsd_num.specs.Literals.{number_in}
+use Rattle.term_core.specs.Literals.{number_in}
 use Rattle.xsd_num.proofs.Wide.{projected}
 use Rattle.xsd_num.proofs.lexical.read.Goals as goal
 
