@@ -16,7 +16,7 @@ use Rattle.term_core.specs.Names.{is_scheme, has_scheme}
 use Rattle.nt_text.specs.declared.classes.Class.{Class}
 use Rattle.nt_text.specs.declared.classes.Class.TheVariants as classes
 use Rattle.nt_text.specs.Characters.{is_in}
-use Rattle.nt_text.specs.Reading.{before, head_at}
+use Rattle.nt_text.specs.Reading.{front_before, head_at}
 
 -- a test that is the same for every number from 128 on
 abbrev pub IsFlat : (ℕ → Bool) → Bool → Type 0
@@ -176,7 +176,7 @@ cut_by p t flat bytes n utf8 fits taken left =
 pub record IsBefore (text rest : List ℕ) : Type 0 where
   pub fits : length rest ≤ length text
   pub boundary : IsCharBoundary text (length text - length rest)
-  pub front : take (length text - length rest) text ≡ encode_utf8_all (before (chars text) (chars rest))
+  pub front : take (length text - length rest) text ≡ encode_utf8_all (front_before (chars text) (chars rest))
 
 pub cut_before : (text rest front : List ℕ) → IsUtf8 text → IsUtf8 rest → chars text ≡ front ++ chars rest → IsBefore text rest
 cut_before text rest front utf8_text utf8_rest e =
@@ -202,7 +202,6 @@ pub class_is_flat : (class : Class) → (t : Bool) × IsFlat (is_in class) t
 class_is_flat classes.Blank = (false, λ c large. grind (arith, nat_tests))
 class_is_flat classes.Iri = (true, λ c large. grind (arith, nat_tests))
 class_is_flat classes.Plain = (true, λ c large. grind (arith, nat_tests))
-class_is_flat classes.Scheme = (false, λ c large. grind (arith, nat_tests))
 class_is_flat classes.Letter = (false, λ c large. grind (arith, nat_tests))
 class_is_flat classes.Line = (true, λ c large. grind (arith, nat_tests))
 

@@ -4,8 +4,8 @@ use Rattle.std.proofs.Math.Seq.{take-append_seam, drop-append_seam}
 use Rattle.std.specs.Str.{encode_utf8_all}
 use Rattle.term_core.specs.Characters.{AreAll}
 use Rattle.term_core.specs.Names.{IsDotted, IsLabel, is_label_first, is_label_part}
-use Rattle.nt_text.specs.Grammar.{IsLongest}
-use Rattle.nt_text.specs.Reading.{past_name, before, name_at}
+use Rattle.nt_text.specs.Grammar.{IsLongestFront}
+use Rattle.nt_text.specs.Reading.{past_name, front_before, name_at}
 use Rattle.nt_text.proofs.Steps.{guard_some}
 use Rattle.nt_text.proofs.EscapeLaws.{all_parts, all_both}
 
@@ -17,7 +17,7 @@ same_cut a x b y e same =
     (sym (take-append_seam a x) ∙ (λ i. take (same i) (e i)) ∙ take-append_seam b y, sym (drop-append_seam a x) ∙ (λ i. drop (same i) (e i)) ∙ drop-append_seam b y)
 
 -- what is before a rest
-pub before_seam : (front rest : List ℕ) → before (front ++ rest) rest ≡ front
+pub before_seam : (front rest : List ℕ) → front_before (front ++ rest) rest ≡ front
 before_seam front rest =
     let count : length (front ++ rest) - length rest ≡ length front = omega (arith, length-append front rest) in
     ap (λ n. take n (front ++ rest)) count ∙ take-append_seam front rest
@@ -87,7 +87,7 @@ left_of text (c ∷ name) behind e dotted = subst (λ t. length (past_name t t) 
 -- ---- labels
 
 -- the labels at the front of a text are no longer than the one that is read
-label_longest : (first : ℕ) (more name : List ℕ) → more ≡ name ++ past_name more more → IsLongest IsLabel (first ∷ more) (first ∷ name)
+label_longest : (first : ℕ) (more name : List ℕ) → more ≡ name ++ past_name more more → IsLongestFront IsLabel (first ∷ more) (first ∷ name)
 label_longest first more name whole [] behind is e = absurd is
 label_longest first more name whole (c ∷ longer) behind is e =
     let rest : more ≡ longer ++ behind = cc e in
@@ -99,7 +99,7 @@ pub record IsLabelAt (text value rest : List ℕ) : Type 0 where
   pub characters : List ℕ
   pub spelled : text ≡ characters ++ rest
   pub is_label : IsLabel characters
-  pub longest : IsLongest IsLabel (characters ++ rest) characters
+  pub longest : IsLongestFront IsLabel (characters ++ rest) characters
   pub bytes : value ≡ encode_utf8_all characters
 
 abbrev Read : Type 0
@@ -110,25 +110,25 @@ pub name_sound : (text value rest : List ℕ) → name_at text ≡ Some (value, 
 unfolding name_at
 name_sound [] value rest e = absurd cc
 name_sound (c ∷ more) value rest e =
-    let read : Read = (encode_utf8_all (before (c ∷ more) (past_name more more)), past_name more more) in
+    let read : Read = (encode_utf8_all (front_before (c ∷ more) (past_name more more)), past_name more more) in
     let wanted : Read = (value, rest) in
     let g = guard_some (is_label_first c) read wanted e in
     let name = name_front more in
     let rest_is : past_name more more ≡ rest = ap (λ (r : Read). r.1) g.1 in
-    let value_is : encode_utf8_all (before (c ∷ more) (past_name more more)) ≡ value = ap (λ (r : Read). r.0) g.1 in
+    let value_is : encode_utf8_all (front_before (c ∷ more) (past_name more more)) ≡ value = ap (λ (r : Read). r.0) g.1 in
     let whole : c ∷ more ≡ (c ∷ name.0) ++ past_name more more = ap (λ t. c ∷ t) name.1 in
-    let before_is : before (c ∷ more) (past_name more more) ≡ c ∷ name.0 = ap (λ t. before t (past_name more more)) whole ∙ before_seam (c ∷ name.0) (past_name more more) in
+    let before_is : front_before (c ∷ more) (past_name more more) ≡ c ∷ name.0 = ap (λ t. front_before t (past_name more more)) whole ∙ before_seam (c ∷ name.0) (past_name more more) in
     let spelled : c ∷ more ≡ (c ∷ name.0) ++ rest = whole ∙ ap (λ r. (c ∷ name.0) ++ r) rest_is in
     record {
       characters = c ∷ name.0;
       spelled = spelled;
       is_label = (g.0, name.2);
-      longest = subst (λ t. IsLongest IsLabel t (c ∷ name.0)) spelled (label_longest c more name.0 name.1);
+      longest = subst (λ t. IsLongestFront IsLabel t (c ∷ name.0)) spelled (label_longest c more name.0 name.1);
       bytes = sym value_is ∙ ap encode_utf8_all before_is;
     }
 
 -- the longest label at the front is read
-pub name_complete : (characters rest : List ℕ) → IsLabel characters → IsLongest IsLabel (characters ++ rest) characters → name_at (characters ++ rest) ≡ Some (encode_utf8_all characters, rest)
+pub name_complete : (characters rest : List ℕ) → IsLabel characters → IsLongestFront IsLabel (characters ++ rest) characters → name_at (characters ++ rest) ≡ Some (encode_utf8_all characters, rest)
 unfolding name_at
 name_complete [] rest is longest = absurd is
 name_complete (c ∷ tail) rest (first, dotted) longest =
@@ -139,4 +139,4 @@ name_complete (c ∷ tail) rest (first, dotted) longest =
     let reach = left_of more tail rest refl dotted in
     let lengths : length tail ≡ length name.0 = omega (arith, length-append tail rest, ap length name.1 ∙ length-append name.0 (past_name more more), reach, no_longer) in
     let same = same_cut tail rest name.0 (past_name more more) name.1 lengths in
-    rw first ((λ i. Some (encode_utf8_all (before (c ∷ (tail ++ rest)) (sym same.1 i)), sym same.1 i)) ∙ ap (λ t. Some (encode_utf8_all t, rest)) (before_seam (c ∷ tail) rest))
+    rw first ((λ i. Some (encode_utf8_all (front_before (c ∷ (tail ++ rest)) (sym same.1 i)), sym same.1 i)) ∙ ap (λ t. Some (encode_utf8_all t, rest)) (before_seam (c ∷ tail) rest))

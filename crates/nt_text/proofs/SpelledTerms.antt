@@ -19,7 +19,7 @@ use Rattle.term_core.specs.declared.term.Term.{Term}
 use Rattle.term_core.specs.declared.term.Term.TheVariants as terms
 use Rattle.term_core.specs.declared.term.Triple.{Triple}
 use Rattle.nt_text.specs.declared.fault.DataFault.{DataFault}
-use Rattle.nt_text.specs.Grammar.{IsIri, IsString, IsBlankNode, IsLang, IsSpaced, IsLiteral, IsSubject, IsPredicate, IsObject, IsTriple, IsLine, AreLines, IsLineEnd, AreLinesOf, IsDocument}
+use Rattle.nt_text.specs.Grammar.{IsIriAt, IsStringAt, IsBlankNode, IsLang, IsSpaced, IsLiteral, IsSubject, IsPredicate, IsObjectAt, IsTriple, IsLine, AreLines, IsLineEnd, AreLinesOf, IsDocument}
 use Rattle.nt_text.specs.Reading.{document_of, IsOutcome}
 use Rattle.nt_text.proofs.EscapeLaws.{all_parts}
 use Rattle.nt_text.proofs.TagLaws.{small_encoded}
@@ -82,7 +82,7 @@ spelled_class escapes (escape {c} {escape = e} {text} {value} is more) = rw (esc
 abbrev IsScalars : List ℕ → Type 0
 IsScalars text = all_scalars text ≡ true
 
-iri_parts : (text iri rest : List ℕ) → IsScalars text → IsIri text iri rest → IsSpelledIri iri × IsScalars rest
+iri_parts : (text iri rest : List ℕ) → IsScalars text → IsIriAt text iri rest → IsSpelledIri iri × IsScalars rest
 iri_parts text iri rest scalars h =
     let a = scalars_of text (60 ∷ []) (h.body ++ 62 ∷ rest) h.spelled scalars in
     let b = scalars_front h.body (62 ∷ rest) a.1 in
@@ -96,7 +96,7 @@ iri_parts text iri rest scalars h =
       c.1,
     )
 
-string_parts : (text lexical rest : List ℕ) → IsScalars text → IsString text lexical rest → IsUtf8 lexical × IsScalars rest
+string_parts : (text lexical rest : List ℕ) → IsScalars text → IsStringAt text lexical rest → IsUtf8 lexical × IsScalars rest
 string_parts text lexical rest scalars h =
     let a = scalars_of text (34 ∷ []) (h.body ++ 34 ∷ rest) h.spelled scalars in
     let b = scalars_front h.body (34 ∷ rest) a.1 in
@@ -188,7 +188,7 @@ literal_parts text lexical datatype lang rest scalars (inr (inr h)) =
     let s = string_parts text lexical rest scalars h.string in
     ((s.0, inl (h.no_tag, subst IsSpelledIri (sym h.datatype_is) string_is_iri, λ e. string_is_plain (sym h.datatype_is ∙ e))), s.1)
 
-object_parts : (text : List ℕ) (t : Term) (rest : List ℕ) → IsScalars text → IsObject text t rest → IsSpelled t × IsScalars rest
+object_parts : (text : List ℕ) (t : Term) (rest : List ℕ) → IsScalars text → IsObjectAt text t rest → IsSpelled t × IsScalars rest
 object_parts text (terms.Iri iri) rest scalars h = iri_parts text iri rest scalars h
 object_parts text (terms.Blank label) rest scalars h = label_parts text label rest scalars h
 object_parts text (terms.Literal lexical datatype lang) rest scalars h = literal_parts text lexical datatype lang rest scalars h

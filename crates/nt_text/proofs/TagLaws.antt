@@ -9,8 +9,8 @@ use Rattle.std.proofs.lemmas.Str.{encode_ascii}
 use Rattle.term_core.specs.Characters.{front, after, begins, is_letter, AreAll}
 use Rattle.term_core.specs.Names.{IsTag, AreSubtags, is_alphanumeric}
 use Rattle.term_core.specs.Names.AreSubtags.{no_subtag, subtag}
-use Rattle.nt_text.specs.Grammar.{IsLang, IsLongest}
-use Rattle.nt_text.specs.Reading.{◌>>=◌, expect, head_at, past_subtags, past_tag, before, lang_at}
+use Rattle.nt_text.specs.Grammar.{IsLang, IsLongestFront}
+use Rattle.nt_text.specs.Reading.{◌>>=◌, expect, head_at, past_subtags, past_tag, front_before, lang_at}
 use Rattle.nt_text.proofs.Cut.{parts}
 use Rattle.nt_text.proofs.Steps.{bind_some, guard_some, expect_is, passes, stops}
 use Rattle.nt_text.proofs.EscapeLaws.{all_parts, all_both}
@@ -150,7 +150,7 @@ tag_whole body =
     ∙ sym (append_assoc (front is_letter body) (subtags_front (after is_letter body)).0 (past_tag (after is_letter body)))
 
 -- the tags at the front of a text are no longer than the one that is read
-tag_longest : (body : List ℕ) → IsLongest IsTag body (tag_of body)
+tag_longest : (body : List ℕ) → IsLongestFront IsTag body (tag_of body)
 tag_longest body longer behind is e = by_subtags is.subtags refl
   where
     lengths : length (tag_of body) + length (past_tag (after is_letter body)) ≡ length longer + length behind
@@ -221,13 +221,13 @@ abbrev Read : Type 0
 Read = List ℕ × List ℕ
 
 abbrev lang_read : List ℕ → Read
-lang_read body = (map to_ascii_lowercase (encode_utf8_all (before body (past_tag (after is_letter body)))), past_tag (after is_letter body))
+lang_read body = (map to_ascii_lowercase (encode_utf8_all (front_before body (past_tag (after is_letter body)))), past_tag (after is_letter body))
 
 abbrev lang_by : List ℕ → ℕ × List ℕ → Option Read
 lang_by body first = cond (is_letter first.0) (Some (lang_read body)) None
 
-before_tag : (body : List ℕ) → before body (past_tag (after is_letter body)) ≡ tag_of body
-before_tag body = ap (λ t. before t (past_tag (after is_letter body))) (tag_whole body) ∙ before_seam (tag_of body) (past_tag (after is_letter body))
+before_tag : (body : List ℕ) → front_before body (past_tag (after is_letter body)) ≡ tag_of body
+before_tag body = ap (λ t. front_before t (past_tag (after is_letter body))) (tag_whole body) ∙ before_seam (tag_of body) (past_tag (after is_letter body))
 
 pub lang_sound : (text value rest : List ℕ) → lang_at text ≡ Some (value, rest) → IsLang text value rest
 unfolding lang_at
@@ -248,7 +248,7 @@ lang_sound text value rest e =
           tag = tag_of body;
           spelled = here ∙ ap (λ t. 64 ∷ t) spelled;
           is_tag = is;
-          longest = subst (λ t. IsLongest IsTag t (tag_of body)) spelled (tag_longest body);
+          longest = subst (λ t. IsLongestFront IsTag t (tag_of body)) spelled (tag_longest body);
           lower = sym (ap (λ (r : Read). r.0) g.1) ∙ ap (map to_ascii_lowercase) (ap encode_utf8_all (before_tag body) ∙ tag_encoded (tag_of body) is);
         }
 
@@ -279,7 +279,7 @@ lang_complete text value rest h = ap lang_at h.spelled ∙ read
     same : (h.tag ≡ tag_of body) × (rest ≡ past_tag (after is_letter body))
     same = same_cut h.tag rest (tag_of body) (past_tag (after is_letter body)) (tag_whole body) lengths
 
-    value_is : map to_ascii_lowercase (encode_utf8_all (before body (past_tag (after is_letter body)))) ≡ value
+    value_is : map to_ascii_lowercase (encode_utf8_all (front_before body (past_tag (after is_letter body)))) ≡ value
     value_is = ap (map to_ascii_lowercase) (ap encode_utf8_all (before_tag body ∙ sym same.0) ∙ tag_encoded h.tag h.is_tag) ∙ sym h.lower
 
     by_letter : (head_at body >>= lang_by body) ≡ Some (lang_read body)

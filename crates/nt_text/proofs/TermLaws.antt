@@ -12,7 +12,7 @@ use Rattle.term_core.specs.declared.term.Term.{Term}
 use Rattle.term_core.specs.declared.term.Term.TheVariants as terms
 use Rattle.nt_text.specs.declared.escapes.Quoted.TheVariants as quoted
 use Rattle.nt_text.specs.Characters.{is_blank}
-use Rattle.nt_text.specs.Grammar.{IsIri, IsString, IsBlankNode, IsSpaced, IsLiteral, IsSubject, IsObject}
+use Rattle.nt_text.specs.Grammar.{IsIriAt, IsStringAt, IsBlankNode, IsSpaced, IsLiteral, IsSubject, IsObjectAt}
 use Rattle.nt_text.specs.Reading.{◌>>=◌, expect, spelled_at, iri_at, string_at, name_at, label_at, lang_at, datatype_at, literal_by, literal_at, subject_at, object_at}
 use Rattle.nt_text.proofs.Cut.{scheme_encoded}
 use Rattle.nt_text.proofs.Steps.{bind_some, guard_some, some_is, expect_is, spaced_after, skipped}
@@ -28,7 +28,7 @@ Read = List ℕ × List ℕ
 abbrev iri_of : List ℕ → List ℕ → Option Read
 iri_of body rest = cond (has_scheme (encode_utf8_all (spelled_at quoted.Iri body).0)) (Some (encode_utf8_all (spelled_at quoted.Iri body).0, rest)) None
 
-pub iri_sound : (text iri rest : List ℕ) → iri_at text ≡ Some (iri, rest) → IsIri text iri rest
+pub iri_sound : (text iri rest : List ℕ) → iri_at text ≡ Some (iri, rest) → IsIriAt text iri rest
 unfolding iri_at
 iri_sound text iri rest e =
     let a = bind_some (expect 60 text) (λ body. expect 62 (spelled_at quoted.Iri body).1 >>= iri_of body) (iri, rest) e in
@@ -47,7 +47,7 @@ iri_sound text iri rest e =
       bytes = sym (ap (λ (r : Read). r.0) g.1);
     }
 
-pub iri_complete : (text iri rest : List ℕ) → IsIri text iri rest → iri_at text ≡ Some (iri, rest)
+pub iri_complete : (text iri rest : List ℕ) → IsIriAt text iri rest → iri_at text ≡ Some (iri, rest)
 unfolding iri_at
 iri_complete text iri rest h =
     let s = spelled_complete quoted.Iri 62 rest h.reads refl refl in
@@ -59,7 +59,7 @@ iri_complete text iri rest h =
 abbrev string_of : List ℕ → List ℕ → Option Read
 string_of body rest = Some (encode_utf8_all (spelled_at quoted.String body).0, rest)
 
-pub string_sound : (text lexical rest : List ℕ) → string_at text ≡ Some (lexical, rest) → IsString text lexical rest
+pub string_sound : (text lexical rest : List ℕ) → string_at text ≡ Some (lexical, rest) → IsStringAt text lexical rest
 unfolding string_at
 string_sound text lexical rest e =
     let a = bind_some (expect 34 text) (λ body. expect 34 (spelled_at quoted.String body).1 >>= string_of body) (lexical, rest) e in
@@ -77,7 +77,7 @@ string_sound text lexical rest e =
       bytes = sym (ap (λ (r : Read). r.0) same);
     }
 
-pub string_complete : (text lexical rest : List ℕ) → IsString text lexical rest → string_at text ≡ Some (lexical, rest)
+pub string_complete : (text lexical rest : List ℕ) → IsStringAt text lexical rest → string_at text ≡ Some (lexical, rest)
 unfolding string_at
 string_complete text lexical rest h =
     let s = spelled_complete quoted.String 34 rest h.reads refl refl in
@@ -121,7 +121,7 @@ record IsDatatype (text datatype rest : List ℕ) : Type 0 where
   to_iri : List ℕ
   sign : text ≡ 94 ∷ 94 ∷ after_sign
   space : IsSpaced after_sign to_iri
-  iri : IsIri to_iri datatype rest
+  iri : IsIriAt to_iri datatype rest
   other : datatype ≢ lang_string
 
 datatype_sound : (text datatype rest : List ℕ) → datatype_at text ≡ Some (datatype, rest) → IsDatatype text datatype rest
@@ -171,12 +171,12 @@ IsLiteralTerm text (terms.Literal lexical datatype lang) rest = IsLiteral text l
 made_is : (text : List ℕ) (made : Term_read) (t : Term) (rest : List ℕ) → (let r : Option Term_read = Some made in r ≡ Some (t, rest)) → IsLiteralTerm text made.0 made.1 → IsLiteralTerm text t rest
 made_is text made t rest e h = let wanted : Term_read = (t, rest) in subst (λ (p : Term_read). IsLiteralTerm text p.0 p.1) (some_is made wanted e) h
 
-plain_made : (text lexical behind : List ℕ) (t : Term) (rest : List ℕ) → IsString text lexical behind → (let made : Term_read = (terms.Literal lexical xsd_string [], behind) in Some made ≡ Some (t, rest)) → IsLiteralTerm text t rest
+plain_made : (text lexical behind : List ℕ) (t : Term) (rest : List ℕ) → IsStringAt text lexical behind → (let made : Term_read = (terms.Literal lexical xsd_string [], behind) in Some made ≡ Some (t, rest)) → IsLiteralTerm text t rest
 plain_made text lexical behind t rest string e =
     made_is text (terms.Literal lexical xsd_string [], behind) t rest e (inr (inr (record { string = string; datatype_is = refl; no_tag = refl })))
 
 -- a literal that is read behind its string stands there
-literal_from : (text lexical behind next : List ℕ) (t : Term) (rest : List ℕ) → IsString text lexical behind → IsSpaced behind next → literal_by lexical behind next ≡ Some (t, rest) → IsLiteralTerm text t rest
+literal_from : (text lexical behind next : List ℕ) (t : Term) (rest : List ℕ) → IsStringAt text lexical behind → IsSpaced behind next → literal_by lexical behind next ≡ Some (t, rest) → IsLiteralTerm text t rest
 literal_from text lexical behind [] t rest string space e = plain_made text lexical behind t rest string e
 literal_from text lexical behind (c ∷ next) t rest string space e = by_at (eqb c 64) e
   where
@@ -277,21 +277,21 @@ subject_complete text (terms.Blank label) rest h = ap subject_at h.spelled ∙ r
 subject_complete text (terms.Literal lexical datatype lang) rest h = absurd h
 
 -- a subject is an object
-subject_object : (text : List ℕ) (t : Term) (rest : List ℕ) → IsSubject text t rest → IsObject text t rest
+subject_object : (text : List ℕ) (t : Term) (rest : List ℕ) → IsSubject text t rest → IsObjectAt text t rest
 subject_object text (terms.Iri iri) rest h = h
 subject_object text (terms.Blank label) rest h = h
 subject_object text (terms.Literal lexical datatype lang) rest h = absurd h
 
-literal_object : (text : List ℕ) (t : Term) (rest : List ℕ) → IsLiteralTerm text t rest → IsObject text t rest
+literal_object : (text : List ℕ) (t : Term) (rest : List ℕ) → IsLiteralTerm text t rest → IsObjectAt text t rest
 literal_object text (terms.Iri iri) rest h = absurd h
 literal_object text (terms.Blank label) rest h = absurd h
 literal_object text (terms.Literal lexical datatype lang) rest h = h
 
-pub object_sound : (text : List ℕ) (t : Term) (rest : List ℕ) → object_at text ≡ Some (t, rest) → IsObject text t rest
+pub object_sound : (text : List ℕ) (t : Term) (rest : List ℕ) → object_at text ≡ Some (t, rest) → IsObjectAt text t rest
 object_sound [] t rest e = absurd cc
 object_sound (c ∷ text) t rest e = by_sign (eqb c 34) e
   where
-    by_sign : (q : Bool) → cond q (literal_at (c ∷ text)) (subject_at (c ∷ text)) ≡ Some (t, rest) → IsObject (c ∷ text) t rest
+    by_sign : (q : Bool) → cond q (literal_at (c ∷ text)) (subject_at (c ∷ text)) ≡ Some (t, rest) → IsObjectAt (c ∷ text) t rest
     by_sign true h = literal_object (c ∷ text) t rest (literal_sound (c ∷ text) t rest h)
     by_sign false h = subject_object (c ∷ text) t rest (subject_sound (c ∷ text) t rest h)
 
@@ -301,7 +301,7 @@ literal_begins text lexical datatype lang rest (inl h) = (h.string.body ++ 34 �
 literal_begins text lexical datatype lang rest (inr (inl h)) = (h.string.body ++ 34 ∷ h.behind, h.string.spelled)
 literal_begins text lexical datatype lang rest (inr (inr h)) = (h.string.body ++ 34 ∷ rest, h.string.spelled)
 
-pub object_complete : (text : List ℕ) (t : Term) (rest : List ℕ) → IsObject text t rest → Stops rest → object_at text ≡ Some (t, rest)
+pub object_complete : (text : List ℕ) (t : Term) (rest : List ℕ) → IsObjectAt text t rest → Stops rest → object_at text ≡ Some (t, rest)
 object_complete text (terms.Iri iri) rest h stop = ap object_at h.spelled ∙ ap subject_at (sym h.spelled) ∙ subject_complete text (terms.Iri iri) rest h
 object_complete text (terms.Blank label) rest h stop = ap object_at h.spelled ∙ ap subject_at (sym h.spelled) ∙ subject_complete text (terms.Blank label) rest h
 object_complete text (terms.Literal lexical datatype lang) rest h stop =

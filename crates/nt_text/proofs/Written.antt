@@ -18,7 +18,7 @@ use Rattle.term_core.specs.declared.term.Term.{Term}
 use Rattle.term_core.specs.declared.term.Term.TheVariants as terms
 use Rattle.term_core.specs.declared.term.Triple.{Triple}
 use Rattle.nt_text.specs.Characters.{is_blank, is_line}
-use Rattle.nt_text.specs.Grammar.{IsIri, IsString, IsLongest, IsSpaced, IsLiteral, IsSubject, IsPredicate, IsObject, IsTriple, AreLinesOf, IsDocument}
+use Rattle.nt_text.specs.Grammar.{IsIriAt, IsStringAt, IsLongestFront, IsSpaced, IsLiteral, IsSubject, IsPredicate, IsObjectAt, IsTriple, AreLinesOf, IsDocument}
 use Rattle.nt_text.proofs.EscapeLaws.{all_parts, all_both}
 use Rattle.nt_text.proofs.TagLaws.{is_small, weaker, tag_small}
 use Rattle.nt_text.proofs.WrittenText.{IsWrittenAs, written_as, text_both, text_small, text_escaped}
@@ -97,7 +97,7 @@ label_stands : (text : List ℕ) → IsLabel text → AreAll stands text
 label_stands [] is = absurd is
 label_stands (c ∷ text) (first, dotted) = rw (first_stands c first) (dotted_stands text dotted)
 
-label_longest : (label more : List ℕ) → IsLongest IsLabel (label ++ 32 ∷ more) label
+label_longest : (label more : List ℕ) → IsLongestFront IsLabel (label ++ 32 ∷ more) label
 label_longest label more longer behind is e = no_longer stands label (32 ∷ more) longer behind stands_blank (label_stands longer is) e
 
 -- ---- tags
@@ -116,7 +116,7 @@ letter_of c h = second (eqb c 45) (is_alphanumeric c) (rw h refl)
 tag_of : (tag : List ℕ) → IsTag tag → AreAll is_of_tag tag
 tag_of tag is = subst (AreAll is_of_tag) (sym is.spelled) (all_both is_of_tag is.primary is.subtags (weaker is_letter is_of_tag letter_of is.primary is.letters) (subtags_of is.are_subtags))
 
-tag_longest : (tag more : List ℕ) → IsLongest IsTag (tag ++ 32 ∷ more) tag
+tag_longest : (tag more : List ℕ) → IsLongestFront IsTag (tag ++ 32 ∷ more) tag
 tag_longest tag more longer behind is e = no_longer is_of_tag tag (32 ∷ more) longer behind refl (tag_of longer is) e
 
 -- ---- lexical forms
@@ -164,7 +164,7 @@ record IsWritten (t : Term) : Type 0 where
   characters : List ℕ
   text : IsLineText characters (term_text t)
   begun : (more : List ℕ) → begins is_blank (characters ++ more) ≡ false
-  reads : (more : List ℕ) → IsObject (characters ++ 32 ∷ more) t (32 ∷ more)
+  reads : (more : List ℕ) → IsObjectAt (characters ++ 32 ∷ more) t (32 ∷ more)
 
 iri_text : (iri : List ℕ) (is : IsSpelledIri iri) → IsLineText (60 ∷ (is.characters ++ 62 ∷ [])) (60 ∷ (iri ++ 62 ∷ []))
 iri_text iri is =
@@ -172,7 +172,7 @@ iri_text iri is =
     line_both (60 ∷ []) (is.characters ++ 62 ∷ []) (60 ∷ []) (iri ++ 62 ∷ []) (line_small (60 ∷ []) refl refl)
     (line_both is.characters (62 ∷ []) iri (62 ∷ []) body (line_small (62 ∷ []) refl refl))
 
-iri_reads : (iri : List ℕ) (is : IsSpelledIri iri) (more : List ℕ) → IsIri ((60 ∷ (is.characters ++ 62 ∷ [])) ++ more) iri more
+iri_reads : (iri : List ℕ) (is : IsSpelledIri iri) (more : List ℕ) → IsIriAt ((60 ∷ (is.characters ++ 62 ∷ [])) ++ more) iri more
 iri_reads iri is more = record {
   body = is.characters;
   characters = is.characters;
@@ -212,13 +212,13 @@ label_written label is =
 record IsKindWritten (datatype lang : List ℕ) : Type 0 where
   characters : List ℕ
   text : IsLineText characters (kind_text datatype lang)
-  reads : (text lexical more : List ℕ) → IsString text lexical (characters ++ 32 ∷ more) → IsLiteral text lexical datatype lang (32 ∷ more)
+  reads : (text lexical more : List ℕ) → IsStringAt text lexical (characters ++ 32 ∷ more) → IsLiteral text lexical datatype lang (32 ∷ more)
 
 no_space : (text : List ℕ) → begins is_blank text ≡ false → IsSpaced text text
 no_space text other = record { blanks = []; spelled = refl; are_blank = refl; longest = other }
 
 typed_reads : (datatype : List ℕ) (is : IsSpelledIri datatype) → datatype ≢ lang_string → (text lexical more : List ℕ)
-    → IsString text lexical ((94 ∷ 94 ∷ 60 ∷ (is.characters ++ 62 ∷ [])) ++ 32 ∷ more) → IsLiteral text lexical datatype [] (32 ∷ more)
+    → IsStringAt text lexical ((94 ∷ 94 ∷ 60 ∷ (is.characters ++ 62 ∷ [])) ++ 32 ∷ more) → IsLiteral text lexical datatype [] (32 ∷ more)
 typed_reads datatype is other text lexical more string = inr (inl (record {
   behind = (94 ∷ 94 ∷ 60 ∷ (is.characters ++ 62 ∷ [])) ++ 32 ∷ more;
   to_sign = (94 ∷ 94 ∷ 60 ∷ (is.characters ++ 62 ∷ [])) ++ 32 ∷ more;
@@ -268,7 +268,7 @@ tag_text datatype [] some = absurd (some refl)
 tag_text datatype (c ∷ tag) some = refl
 
 tag_reads : (datatype lang : List ℕ) → IsSpelledTag lang → datatype ≡ lang_string → (text lexical more : List ℕ)
-    → IsString text lexical ((64 ∷ lang) ++ 32 ∷ more) → IsLiteral text lexical datatype lang (32 ∷ more)
+    → IsStringAt text lexical ((64 ∷ lang) ++ 32 ∷ more) → IsLiteral text lexical datatype lang (32 ∷ more)
 tag_reads datatype lang is same text lexical more string = inl (record {
   behind = (64 ∷ lang) ++ 32 ∷ more;
   to_tag = (64 ∷ lang) ++ 32 ∷ more;
@@ -291,7 +291,7 @@ kind_written : (datatype lang : List ℕ) → IsSpelledKind datatype lang → Is
 kind_written datatype lang (inl (none, is, apart)) = subst (IsKindWritten datatype) (sym none) (untagged_written datatype is apart)
 kind_written datatype lang (inr (is, same)) = tagged_written datatype lang is same
 
-string_reads : (cs lexical rest : List ℕ) → IsTextOf cs lexical → IsString (34 ∷ (flat_map escaped cs ++ 34 ∷ rest)) lexical rest
+string_reads : (cs lexical rest : List ℕ) → IsTextOf cs lexical → IsStringAt (34 ∷ (flat_map escaped cs ++ 34 ∷ rest)) lexical rest
 string_reads cs lexical rest is = record { body = flat_map escaped cs; characters = cs; spelled = refl; reads = escaped_spells cs; bytes = sym is.encoded }
 
 literal_written : (lexical datatype lang cs : List ℕ) → IsTextOf cs lexical → IsKindWritten datatype lang → IsWritten (terms.Literal lexical datatype lang)
@@ -314,12 +314,12 @@ term_written (terms.Literal lexical datatype lang) ((cs, (scalars, encoded)), ki
 
 -- ---- triples
 
-subject_of : (text : List ℕ) (t : Term) (rest : List ℕ) → order.MayBeSubject t → IsObject text t rest → IsSubject text t rest
+subject_of : (text : List ℕ) (t : Term) (rest : List ℕ) → order.MayBeSubject t → IsObjectAt text t rest → IsSubject text t rest
 subject_of text (terms.Iri iri) rest allowed h = h
 subject_of text (terms.Blank label) rest allowed h = h
 subject_of text (terms.Literal lexical datatype lang) rest allowed h = absurd allowed
 
-predicate_of : (text : List ℕ) (t : Term) (rest : List ℕ) → order.MayBePredicate t → IsObject text t rest → IsPredicate text t rest
+predicate_of : (text : List ℕ) (t : Term) (rest : List ℕ) → order.MayBePredicate t → IsObjectAt text t rest → IsPredicate text t rest
 predicate_of text (terms.Iri iri) rest allowed h = h
 predicate_of text (terms.Blank label) rest allowed h = absurd allowed
 predicate_of text (terms.Literal lexical datatype lang) rest allowed h = absurd allowed

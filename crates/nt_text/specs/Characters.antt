@@ -2,9 +2,8 @@
 -- bytes in UTF-8 too.
 use Rattle.std.specs.Prelude.{ℕ, Bool, not, codes}
 use Rattle.term_core.specs.Characters.{is_among, is_letter, is_iri, is_plain}
-use Rattle.term_core.specs.Names.{is_scheme}
 use Rattle.nt_text.specs.declared.classes.Class.{Class}
-use Rattle.nt_text.specs.declared.classes.Class.TheVariants.{Blank, Iri, Plain, Scheme, Letter, Line}
+use Rattle.nt_text.specs.declared.classes.Class.TheVariants.{Blank, Iri, Plain, Letter, Line}
 
 -- a space or a tab (RDF 1.1 N-Triples 7)
 abbrev pub is_blank : ℕ → Bool
@@ -19,6 +18,5 @@ abbrev pub is_in : Class → ℕ → Bool
 is_in Blank c = is_blank c
 is_in Iri c = is_iri c
 is_in Plain c = is_plain c
-is_in Scheme c = is_scheme c
 is_in Letter c = is_letter c
 is_in Line c = is_line c

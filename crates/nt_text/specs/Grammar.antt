@@ -14,7 +14,7 @@ use Rattle.term_core.specs.declared.term.Triple.{Triple}
 use Rattle.nt_text.specs.Characters.{is_blank, is_line}
 
 -- an IRI: < characters and escapes >, with a scheme; as > is none of them, this is the longest (RDF 1.1 N-Triples 7, IRIREF)
-pub record IsIri (text iri rest : List ℕ) : Type 0 where
+pub record IsIriAt (text iri rest : List ℕ) : Type 0 where
   pub body : List ℕ
   pub characters : List ℕ
   pub spelled : text ≡ 60 ∷ (body ++ 62 ∷ rest)
@@ -23,7 +23,7 @@ pub record IsIri (text iri rest : List ℕ) : Type 0 where
   pub bytes : iri ≡ encode_utf8_all characters
 
 -- a string: " characters and escapes "; as " is none of them, this is the longest (RDF 1.1 N-Triples 7, STRING_LITERAL_QUOTE)
-pub record IsString (text lexical rest : List ℕ) : Type 0 where
+pub record IsStringAt (text lexical rest : List ℕ) : Type 0 where
   pub body : List ℕ
   pub characters : List ℕ
   pub spelled : text ≡ 34 ∷ (body ++ 34 ∷ rest)
@@ -31,15 +31,15 @@ pub record IsString (text lexical rest : List ℕ) : Type 0 where
   pub bytes : lexical ≡ encode_utf8_all characters
 
 -- nothing longer at the front of the text is of this kind
-abbrev pub IsLongest : (List ℕ → Type 0) → List ℕ → List ℕ → Type 0
-IsLongest Is text found = (longer behind : List ℕ) → Is longer → text ≡ longer ++ behind → length longer ≤ length found
+abbrev pub IsLongestFront : (List ℕ → Type 0) → List ℕ → List ℕ → Type 0
+IsLongestFront Is text found = (longer behind : List ℕ) → Is longer → text ≡ longer ++ behind → length longer ≤ length found
 
 -- a label of a blank node behind _: and the longest there (RDF 1.1 N-Triples 7, BLANK_NODE_LABEL)
 pub record IsBlankNode (text label rest : List ℕ) : Type 0 where
   pub characters : List ℕ
   pub spelled : text ≡ 95 ∷ 58 ∷ (characters ++ rest)
   pub is_label : IsLabel characters
-  pub longest : IsLongest IsLabel (characters ++ rest) characters
+  pub longest : IsLongestFront IsLabel (characters ++ rest) characters
   pub bytes : label ≡ encode_utf8_all characters
 
 -- a tag behind @, the longest there, put in lower case (RDF 1.1 N-Triples 7, LANGTAG; RDF 1.1 Concepts 3.3)
@@ -47,7 +47,7 @@ pub record IsLang (text lang rest : List ℕ) : Type 0 where
   pub tag : List ℕ
   pub spelled : text ≡ 64 ∷ (tag ++ rest)
   pub is_tag : IsTag tag
-  pub longest : IsLongest IsTag (tag ++ rest) tag
+  pub longest : IsLongestFront IsTag (tag ++ rest) tag
   pub lower : lang ≡ map to_ascii_lowercase tag
 
 -- blanks, all that there are: the rest begins with none (RDF 1.1 N-Triples 7)
@@ -61,7 +61,7 @@ pub record IsSpaced (text rest : List ℕ) : Type 0 where
 pub record IsTagged (text lexical datatype lang rest : List ℕ) : Type 0 where
   pub behind : List ℕ
   pub to_tag : List ℕ
-  pub string : IsString text lexical behind
+  pub string : IsStringAt text lexical behind
   pub space : IsSpaced behind to_tag
   pub tag : IsLang to_tag lang rest
   pub datatype_is : datatype ≡ lang_string
@@ -72,17 +72,17 @@ pub record IsTyped (text lexical datatype lang rest : List ℕ) : Type 0 where
   pub to_sign : List ℕ
   pub after_sign : List ℕ
   pub to_iri : List ℕ
-  pub string : IsString text lexical behind
+  pub string : IsStringAt text lexical behind
   pub space : IsSpaced behind to_sign
   pub sign : to_sign ≡ 94 ∷ 94 ∷ after_sign
   pub space_behind : IsSpaced after_sign to_iri
-  pub iri : IsIri to_iri datatype rest
+  pub iri : IsIriAt to_iri datatype rest
   pub no_tag : lang ≡ []
   pub other : datatype ≢ lang_string
 
 -- a string alone, which has the datatype of plain strings (RDF 1.1 N-Triples 2.3)
 pub record IsPlain (text lexical datatype lang rest : List ℕ) : Type 0 where
-  pub string : IsString text lexical rest
+  pub string : IsStringAt text lexical rest
   pub datatype_is : datatype ≡ xsd_string
   pub no_tag : lang ≡ []
 
@@ -93,21 +93,21 @@ IsLiteral text lexical datatype lang rest =
 
 -- a subject: an IRI or a blank node (RDF 1.1 N-Triples 2.1)
 abbrev pub IsSubject : List ℕ → Term → List ℕ → Type 0
-IsSubject text (terms.Iri iri) rest = IsIri text iri rest
+IsSubject text (terms.Iri iri) rest = IsIriAt text iri rest
 IsSubject text (terms.Blank label) rest = IsBlankNode text label rest
 IsSubject text (terms.Literal lexical datatype lang) rest = ⊥
 
 -- a predicate: an IRI (RDF 1.1 N-Triples 2.1)
 abbrev pub IsPredicate : List ℕ → Term → List ℕ → Type 0
-IsPredicate text (terms.Iri iri) rest = IsIri text iri rest
+IsPredicate text (terms.Iri iri) rest = IsIriAt text iri rest
 IsPredicate text (terms.Blank label) rest = ⊥
 IsPredicate text (terms.Literal lexical datatype lang) rest = ⊥
 
 -- an object: an IRI, a blank node or a literal (RDF 1.1 N-Triples 2.1)
-abbrev pub IsObject : List ℕ → Term → List ℕ → Type 0
-IsObject text (terms.Iri iri) rest = IsIri text iri rest
-IsObject text (terms.Blank label) rest = IsBlankNode text label rest
-IsObject text (terms.Literal lexical datatype lang) rest = IsLiteral text lexical datatype lang rest
+abbrev pub IsObjectAt : List ℕ → Term → List ℕ → Type 0
+IsObjectAt text (terms.Iri iri) rest = IsIriAt text iri rest
+IsObjectAt text (terms.Blank label) rest = IsBlankNode text label rest
+IsObjectAt text (terms.Literal lexical datatype lang) rest = IsLiteral text lexical datatype lang rest
 
 -- a subject, a predicate, an object and a dot, with blanks between (RDF 1.1 N-Triples 2.1)
 pub record IsTriple (text : List ℕ) (triple : Triple) (rest : List ℕ) : Type 0 where
@@ -121,7 +121,7 @@ pub record IsTriple (text : List ℕ) (triple : Triple) (rest : List ℕ) : Type
   pub space_1 : IsSpaced after_subject to_predicate
   pub predicate : IsPredicate to_predicate triple.predicate after_predicate
   pub space_2 : IsSpaced after_predicate to_object
-  pub object : IsObject to_object triple.object after_object
+  pub object : IsObjectAt to_object triple.object after_object
   pub space_3 : IsSpaced after_object to_dot
   pub dot : to_dot ≡ 46 ∷ rest
 

@@ -140,14 +140,14 @@ past_name end [] = end
 past_name end (c ∷ text) = if is_label_part c then past_name text text else (if c == 46 then past_name end text else end)
 
 -- the front of a text that a rest is behind
-abbrev pub before : List ℕ → List ℕ → List ℕ
-before text rest = take (length text - length rest) text
+abbrev pub front_before : List ℕ → List ℕ → List ℕ
+front_before text rest = take (length text - length rest) text
 
 -- a name, and what is behind it (RDF 1.1 N-Triples 7, BLANK_NODE_LABEL)
 unfoldable pub name_at : List ℕ → Option (List ℕ × List ℕ)
 name_at text = do
   first ← head_at text
-  if is_label_first first.0 then Some (encode_utf8_all (before text (past_name first.1 first.1)), past_name first.1 first.1) else None
+  if is_label_first first.0 then Some (encode_utf8_all (front_before text (past_name first.1 first.1)), past_name first.1 first.1) else None
 
 -- a label behind _: and what is behind it (RDF 1.1 N-Triples 7, BLANK_NODE_LABEL)
 unfoldable pub label_at : List ℕ → Option (List ℕ × List ℕ)
@@ -171,7 +171,7 @@ unfoldable pub lang_at : List ℕ → Option (List ℕ × List ℕ)
 lang_at text = do
   body ← expect 64 text
   first ← head_at body
-  if is_letter first.0 then Some (map to_ascii_lowercase (encode_utf8_all (before body (past_tag (after is_letter body)))), past_tag (after is_letter body)) else None
+  if is_letter first.0 then Some (map to_ascii_lowercase (encode_utf8_all (front_before body (past_tag (after is_letter body)))), past_tag (after is_letter body)) else None
 
 -- ---- terms
 

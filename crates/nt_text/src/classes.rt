@@ -2,9 +2,9 @@
 
 ghost use Rattle.std.specs.Prelude.{◌≡◌, ◌≤◌, ◌<◌, ◌++◌, ℕ, List, length, take, drop, option_map, IfSome};
 ghost use Rattle.std.specs.Str.{IsUtf8, chars, encode_utf8_all};
-ghost use Rattle.term_core.specs.Characters.{front, after, is_iri};
+ghost use Rattle.term_core.specs.Characters.{front, after};
 ghost use Rattle.nt_text.specs.Characters.{is_in};
-ghost use Rattle.nt_text.specs.Reading.{head_at, before};
+ghost use Rattle.nt_text.specs.Reading.{head_at, front_before};
 
 /// A class of characters. Each holds all or none of the characters from U+0080 on, and so all or
 /// none of the bytes from 128 on.
@@ -18,9 +18,6 @@ pub enum Class {
     /// What may stand in a string as it is: no quote, backslash, LF or CR (RDF 1.1 N-Triples,
     /// section 7, STRING_LITERAL_QUOTE).
     Plain,
-    /// What may stand in a scheme behind its first letter: ASCII letters and digits, `+`, `-` and
-    /// `.` (RFC 3986, section 3.1).
-    Scheme,
     /// ASCII letters.
     Letter,
     /// What may stand in a line: no LF or CR (RDF 1.1 N-Triples, section 7, EOL).
@@ -41,21 +38,9 @@ pub fn is_in(class: Class, byte: u8) -> bool
                 )
         }
         Class::Plain => !matches!(byte, b'"' | b'\\' | b'\n' | b'\r'),
-        Class::Scheme => {
-            byte.is_ascii_alphabetic()
-                || byte.is_ascii_digit()
-                || matches!(byte, b'+' | b'-' | b'.')
-        }
         Class::Letter => byte.is_ascii_alphabetic(),
         Class::Line => !matches!(byte, b'\n' | b'\r'),
     }
-}
-
-/// Whether a character may stand in an IRI (RDF 1.1 N-Triples, section 7, IRIREF).
-pub fn is_of_iri(c: char) -> bool
-    ensures { result ≡ is_iri c }
-{
-    c > ' ' && !matches!(c, '<' | '>' | '"' | '{' | '}' | '|' | '^' | '`' | '\\')
 }
 
 /// How many bytes of the text's front are of the class.
@@ -108,7 +93,7 @@ pub fn split_first(text: &str) -> Option<(char, &str)>
 /// The front of a text that the rest is behind.
 pub fn before<'a>(text: &'a str, rest: &str) -> &'a str
     requires { (front : List ℕ) × (chars text.now ≡ front ++ chars rest.now) }
-    ensures { result.now ≡ encode_utf8_all (before (chars text.now) (chars rest.now)) }
+    ensures { result.now ≡ encode_utf8_all (front_before (chars text.now) (chars rest.now)) }
 {
     &text[..text.len() - rest.len()]
 }

@@ -2,13 +2,12 @@
 
 ghost use Rattle.std.specs.Prelude.{◌≡◌, ◌++◌, ◌<◌, ◌≤◌, Some, IfOk, IfSome, length, string_bytes, option_map};
 ghost use Rattle.std.specs.Str.{chars, encode_utf8_all};
-ghost use Rattle.term_core.specs.Escapes.{echar_value};
 ghost use Rattle.nt_text.specs.Characters.{is_in};
 ghost use Rattle.nt_text.specs.Reading.{digit_at, four_at, eight_at, scalar_of, uchar_by, iri_escape, echar_or, escape_by, escape_at, plain_in, spelled_at};
 
-use crate::classes::{Class, is_of_iri, span, split_first};
+use crate::classes::{Class, span, split_first};
 use std::alloc::Global;
-use term_core::{Memory, Text};
+use term_core::{Memory, Text, is_iri, unescaped};
 
 /// What a text with escapes stands for: between which signs it stands.
 #[derive(Clone, Copy, Debug, PartialEq, Eq)]
@@ -84,23 +83,6 @@ fn read_uchar(letter: char, rest: &str) -> Option<(char, &str)>
     read_scalar(number, rest)
 }
 
-/// The character that a letter behind a backslash stands for (RDF 1.1 N-Triples, section 7, ECHAR).
-fn echar(letter: char) -> Option<char>
-    ensures { result ≡ echar_value letter }
-{
-    match letter {
-        't' => Some('\t'),
-        'b' => Some('\u{8}'),
-        'n' => Some('\n'),
-        'r' => Some('\r'),
-        'f' => Some('\u{c}'),
-        '"' => Some('"'),
-        '\'' => Some('\''),
-        '\\' => Some('\\'),
-        _ => None,
-    }
-}
-
 /// The character of an escape, read behind its backslash and its letter, and what is behind it.
 fn read_behind(quoted: Quoted, letter: char, rest: &str) -> Option<(char, &str)>
     ensures exact { option_map (λ p. (p.0, chars p.1.now)) result ≡ escape_by quoted letter (chars rest.now) }
@@ -108,10 +90,10 @@ fn read_behind(quoted: Quoted, letter: char, rest: &str) -> Option<(char, &str)>
 {
     match quoted {
         Quoted::Iri => match read_uchar(letter, rest) {
-            Some((c, behind)) if is_of_iri(c) => Some((c, behind)),
+            Some((c, behind)) if is_iri(c) => Some((c, behind)),
             _ => None,
         },
-        Quoted::String => match echar(letter) {
+        Quoted::String => match unescaped(letter) {
             Some(c) => Some((c, rest)),
             None => read_uchar(letter, rest),
         },

@@ -3,15 +3,14 @@
 ghost use Rattle.std.specs.Prelude.{◌≡◌, ◌≢◌, ◌==◌, IfOk, map, true};
 ghost use Rattle.std.specs.Char.{to_ascii_lowercase};
 ghost use Rattle.std.specs.Str.{chars};
-ghost use Rattle.term_core.specs.Characters.{after, begins};
-ghost use Rattle.term_core.specs.Names.{is_scheme, has_scheme, is_label_first, is_label_part, is_alphanumeric};
+ghost use Rattle.term_core.specs.Names.{is_label_first, is_label_part, is_alphanumeric};
 ghost use Rattle.nt_text.specs.Reading.{Gives, expect, iri_at, string_at, past_name, name_at, label_at, past_subtags, past_tag, lang_at};
 
-use crate::classes::{Class, before, is_in, span, split_first};
+use crate::classes::{Class, before, span, split_first};
 use crate::escapes::{Quoted, read_spelled};
 use crate::fault::Unread;
 use std::alloc::Global;
-use term_core::{Memory, Text, is_pn, is_pn_u};
+use term_core::{Memory, Text, has_scheme, is_pn, is_pn_u};
 
 /// What is behind a character that the text has to begin with. `Form` comes exactly where it begins
 /// otherwise; `Memory` never does.
@@ -23,29 +22,6 @@ pub fn expect(character: char, text: &str) -> Result<&str, Unread>
         Some((first, rest)) if first == character => Ok(rest),
         _ => Err(Unread::Form),
     }
-}
-
-/// Whether an IRI begins with a scheme and a colon, as one that is not relative does (RFC 3986,
-/// section 3.1).
-fn has_scheme(iri: &[u8]) -> bool
-    ensures { result ≡ has_scheme iri.now }
-{
-    match iri {
-        [first, more @ ..] => first.is_ascii_alphabetic() && colon_follows(more),
-        [] => false,
-    }
-}
-
-/// Whether a colon stands behind the text's longest front that may stand in a scheme.
-fn colon_follows(text: &[u8]) -> bool
-    ensures { result ≡ begins (λ d. d == 58) (after is_scheme text.now) }
-{
-    for byte in text {
-        if !is_in(Class::Scheme, *byte) {
-            return *byte == b':';
-        }
-    }
-    false
 }
 
 /// The IRI between `<` and `>` at the front of a text, and what is behind it (RDF 1.1 N-Triples,

@@ -1,9 +1,7 @@
 //! Readers of a literal, of the terms of a triple, and of a triple.
 
-ghost use Rattle.std.specs.Prelude.{◌≡◌, IfOk, []};
+ghost use Rattle.std.specs.Prelude.{◌≡◌};
 ghost use Rattle.std.specs.Str.{chars};
-ghost use Rattle.term_core.specs.Texts.{xsd_string};
-ghost use Rattle.term_core.specs.Spelling.{lang_string};
 ghost use Rattle.term_core.specs.Characters.{after};
 ghost use Rattle.nt_text.specs.Characters.{is_blank};
 ghost use Rattle.nt_text.specs.Reading.{Gives, datatype_at, literal_by, literal_at, subject_at, object_at, triple_at};
@@ -12,50 +10,7 @@ use crate::classes::{skip_blanks, split_first};
 use crate::fault::Unread;
 use crate::terminals::{expect, read_iri, read_label, read_lang, read_string};
 use std::alloc::Global;
-use term_core::{Memory, Term, Text, Triple};
-
-/// The datatype of strings without a tag.
-const STRING: &str = "http://www.w3.org/2001/XMLSchema#string";
-
-/// The datatype of strings with a tag.
-const LANG_STRING: &str = "http://www.w3.org/1999/02/22-rdf-syntax-ns#langString";
-
-/// The literal of a string that has neither a datatype nor a tag.
-fn plain_literal(alloc: Global, lexical: Text) -> Result<Term, Memory>
-    ensures { IfOk result (λ term. term ≡ Term.Literal lexical xsd_string []) }
-{
-    let datatype = Text::from_str(alloc, STRING)?;
-    let lang = Text::from_str(alloc, "")?;
-    Ok(Term::Literal {
-        lexical,
-        datatype,
-        lang,
-    })
-}
-
-/// The literal of a string with this tag.
-fn tagged_literal(alloc: Global, lexical: Text, lang: Text) -> Result<Term, Memory>
-    ensures { IfOk result (λ term. term ≡ Term.Literal lexical lang_string lang) }
-{
-    let datatype = Text::from_str(alloc, LANG_STRING)?;
-    Ok(Term::Literal {
-        lexical,
-        datatype,
-        lang,
-    })
-}
-
-/// The literal of a string with this datatype.
-fn typed_literal(alloc: Global, lexical: Text, datatype: Text) -> Result<Term, Memory>
-    ensures { IfOk result (λ term. term ≡ Term.Literal lexical datatype []) }
-{
-    let lang = Text::from_str(alloc, "")?;
-    Ok(Term::Literal {
-        lexical,
-        datatype,
-        lang,
-    })
-}
+use term_core::{RDF_LANG_STRING, Term, Text, Triple};
 
 /// The datatype behind `^^`, and what is behind it. `Form` comes exactly where none stands there, or
 /// that of strings with a tag, which no literal without one has.
@@ -66,7 +21,7 @@ fn read_datatype(alloc: Global, text: &str) -> Result<(Text, &str), Unread>
     let sign = expect('^', text)?;
     let behind = expect('^', sign)?;
     let (datatype, rest) = read_iri(alloc, skip_blanks(behind))?;
-    if datatype.bytes() == LANG_STRING.as_bytes() {
+    if datatype.bytes() == RDF_LANG_STRING.as_bytes() {
         Err(Unread::Form)
     } else {
         Ok((datatype, rest))
@@ -81,13 +36,13 @@ fn read_literal_from(alloc: Global, lexical: Text, text: &str) -> Result<(Term, 
     match split_first(behind) {
         Some(('@', _)) => {
             let (lang, rest) = read_lang(alloc, behind)?;
-            Ok((tagged_literal(alloc, lexical, lang)?, rest))
+            Ok((Term::tagged(alloc, lexical, lang)?, rest))
         }
         Some(('^', _)) => {
             let (datatype, rest) = read_datatype(alloc, behind)?;
-            Ok((typed_literal(alloc, lexical, datatype)?, rest))
+            Ok((Term::typed(alloc, lexical, datatype)?, rest))
         }
-        _ => Ok((plain_literal(alloc, lexical)?, text)),
+        _ => Ok((Term::plain(alloc, lexical)?, text)),
     }
 }
 

@@ -13,8 +13,8 @@ use Rattle.term_core.specs.Mappings.{Name}
 use Rattle.term_core.specs.Texts.{xsd_string}
 use Rattle.pattern_query.specs.declared.query_text.Token.{Token}
 use Rattle.pattern_query.specs.declared.query_text.Token.TheVariants as kinds
-use Rattle.pattern_query.specs.Query.{is_keyword, IsWhere, IsDot, IsVariableOrIri, IsObject, variables_of, with_new, IsSelection, IsSelect, IsQuery}
-use Rattle.pattern_query.specs.QueryReading.{◌>>=◌, place_at, object_at, is_end, group_at, body_at, variables_front, variables_after, selection_at, select_at, is_text, tokens_of, query_at}
+use Rattle.pattern_query.specs.Query.{is_keyword, IsPatternWhere, IsDot, IsVariableOrIri, IsPatternObject, variables_of, with_new, IsPatternSelection, IsPatternSelect, IsPatternQuery}
+use Rattle.pattern_query.specs.QueryReading.{◌>>=◌, place_at, object_place, is_end, group_at, body_at, variables_front, variables_after, selection_at, select_at, is_text, tokens_of, query_at}
 use Rattle.pattern_query.proofs.TerminalLaws.{bind_some, some_is}
 use Rattle.pattern_query.proofs.QueryTokens.{guarded, tokens_of_sound, tokens_of_complete}
 
@@ -40,7 +40,7 @@ place_complete kinds.Open place is = absurd is
 place_complete kinds.Close place is = absurd is
 place_complete kinds.Dot place is = absurd is
 
-object_sound : (token : Token) (place : Place) → object_at token ≡ Some place → IsObject token place
+object_sound : (token : Token) (place : Place) → object_place token ≡ Some place → IsPatternObject token place
 object_sound (kinds.Quoted lexical) place e = sym (some_is (places.Term (terms.Literal lexical xsd_string [])) place e)
 object_sound (kinds.Variable name) place e = place_sound (kinds.Variable name) place e
 object_sound (kinds.Iri iri) place e = place_sound (kinds.Iri iri) place e
@@ -50,7 +50,7 @@ object_sound kinds.Open place e = absurd cc
 object_sound kinds.Close place e = absurd cc
 object_sound kinds.Dot place e = absurd cc
 
-object_complete : (token : Token) (place : Place) → IsObject token place → object_at token ≡ Some place
+object_complete : (token : Token) (place : Place) → IsPatternObject token place → object_place token ≡ Some place
 object_complete (kinds.Quoted lexical) place is = ap Some (sym is)
 object_complete (kinds.Variable name) place is = ap Some (sym is)
 object_complete (kinds.Iri iri) place is = ap Some (sym is)
@@ -69,7 +69,7 @@ record IsGroup (tokens : List Token) (pattern : Pattern) : Type 0 where
   pub predicate : Token
   pub is_predicate : IsVariableOrIri predicate pattern.predicate
   pub object : Token
-  pub is_object : IsObject object pattern.object
+  pub is_object : IsPatternObject object pattern.object
   pub dot : List Token
   pub is_dot : IsDot dot
   pub spelled : tokens ≡ kinds.Open ∷ subject ∷ predicate ∷ object ∷ (dot ++ kinds.Close ∷ [])
@@ -92,16 +92,16 @@ end_complete dot is = elim is [
 ]
 
 abbrev pattern_at : Token → Token → Token → Option Pattern
-pattern_at s p o = place_at s >>= λ subject. place_at p >>= λ predicate. object_at o >>= λ object. Some (record { subject = subject; predicate = predicate; object = object })
+pattern_at s p o = place_at s >>= λ subject. place_at p >>= λ predicate. object_place o >>= λ object. Some (record { subject = subject; predicate = predicate; object = object })
 
 group_sound : (tokens : List Token) (pattern : Pattern) → group_at tokens ≡ Some pattern → IsGroup tokens pattern
 unfolding group_at
 group_sound (kinds.Open ∷ s ∷ p ∷ o ∷ rest) pattern e =
     let g = guarded (is_end rest) (pattern_at s p o) pattern e in
     let end = end_sound rest g.0 in
-    let a = bind_some (place_at s) (λ subject. place_at p >>= λ predicate. object_at o >>= λ object. Some (record { subject = subject; predicate = predicate; object = object })) pattern g.1 in
-    let b = bind_some (place_at p) (λ predicate. object_at o >>= λ object. Some (record { subject = a.0; predicate = predicate; object = object })) pattern a.2 in
-    let d = bind_some (object_at o) (λ object. Some (record { subject = a.0; predicate = b.0; object = object })) pattern b.2 in
+    let a = bind_some (place_at s) (λ subject. place_at p >>= λ predicate. object_place o >>= λ object. Some (record { subject = subject; predicate = predicate; object = object })) pattern g.1 in
+    let b = bind_some (place_at p) (λ predicate. object_place o >>= λ object. Some (record { subject = a.0; predicate = predicate; object = object })) pattern a.2 in
+    let d = bind_some (object_place o) (λ object. Some (record { subject = a.0; predicate = b.0; object = object })) pattern b.2 in
     subst (IsGroup (kinds.Open ∷ s ∷ p ∷ o ∷ rest)) (some_is (record { subject = a.0; predicate = b.0; object = d.0 }) pattern d.2) (record {
       subject = s;
       is_subject = place_sound s a.0 a.1;
@@ -126,7 +126,7 @@ group_complete tokens pattern is =
 -- the pattern behind WHERE or nothing
 record IsBody (tokens : List Token) (pattern : Pattern) : Type 0 where
   pub where_word : List Token
-  pub is_where : IsWhere where_word
+  pub is_where : IsPatternWhere where_word
   pub group : List Token
   pub is_group : IsGroup group pattern
   pub spelled : tokens ≡ where_word ++ group
@@ -145,7 +145,7 @@ Opens tokens = (rest : List Token) × (tokens ≡ kinds.Open ∷ rest)
 opens : (tokens : List Token) (pattern : Pattern) → IsGroup tokens pattern → Opens tokens
 opens tokens pattern is = (is.subject ∷ is.predicate ∷ is.object ∷ (is.dot ++ kinds.Close ∷ []), is.spelled)
 
-behind_where : (where_word group : List Token) → IsWhere where_word → Opens group → body_at (where_word ++ group) ≡ group_at group
+behind_where : (where_word group : List Token) → IsPatternWhere where_word → Opens group → body_at (where_word ++ group) ≡ group_at group
 unfolding body_at
 behind_where where_word group is (rest, begins) = elim is [
   | inl none ↦ (λ i. body_at (none i ++ begins i)) ∙ ap group_at (sym begins)
@@ -186,7 +186,7 @@ body_stops tokens pattern is = elim is.is_where [
 
 record Selects (tokens : List Token) (names : List Name) (pattern : Pattern) : Type 0 where
   pub selection : List Token
-  pub is_selection : IsSelection selection pattern names
+  pub is_selection : IsPatternSelection selection pattern names
   pub body : List Token
   pub is_body : IsBody body pattern
   pub spelled : tokens ≡ selection ++ body
@@ -239,7 +239,7 @@ selection_complete tokens names pattern is = elim is.is_selection [
 
 -- ---- the query
 
-select_sound : (tokens : List Token) (found : List Name × Pattern) → select_at tokens ≡ Some found → IsSelect tokens found.0 found.1
+select_sound : (tokens : List Token) (found : List Name × Pattern) → select_at tokens ≡ Some found → IsPatternSelect tokens found.0 found.1
 unfolding select_at
 select_sound (kinds.Word word ∷ tokens) found e =
     let g = guarded (is_keyword (codes "SELECT") word) (selection_at tokens) found e in
@@ -266,7 +266,7 @@ select_sound (kinds.Word word ∷ tokens) found e =
 select_sound tokens found e = absurd cc
 
 -- the parts of a query behind its first word
-selects_of : (tokens : List Token) (names : List Name) (pattern : Pattern) → (is : IsSelect tokens names pattern) →
+selects_of : (tokens : List Token) (names : List Name) (pattern : Pattern) → (is : IsPatternSelect tokens names pattern) →
     (rest : List Token) × (tokens ≡ kinds.Word is.word ∷ rest) × Selects rest names pattern
 selects_of tokens names pattern is =
     let group : List Token = kinds.Open ∷ is.subject ∷ is.predicate ∷ is.object ∷ (is.dot ++ kinds.Close ∷ []) in (
@@ -297,7 +297,7 @@ selects_of tokens names pattern is =
       },
     )
 
-select_complete : (tokens : List Token) (names : List Name) (pattern : Pattern) → IsSelect tokens names pattern → select_at tokens ≡ selected names pattern
+select_complete : (tokens : List Token) (names : List Name) (pattern : Pattern) → IsPatternSelect tokens names pattern → select_at tokens ≡ selected names pattern
 unfolding select_at
 select_complete tokens names pattern is =
     let s = selects_of tokens names pattern is in
@@ -310,7 +310,7 @@ le_holds : (a b : ℕ) → nat_le a b ≡ true → a ≤ b
 le_holds a b h = grind (arith, nat_tests)
 
 -- what is read of a text is its query
-pub query_sound : (text : List ℕ) (found : List Name × Pattern) → query_at text ≡ Some found → IsQuery text found.0 found.1
+pub query_sound : (text : List ℕ) (found : List Name × Pattern) → query_at text ≡ Some found → IsPatternQuery text found.0 found.1
 unfolding query_at
 query_sound text found e =
     let g = guarded (is_text text) (tokens_of text >>= λ tokens. select_at tokens) found e in
@@ -325,13 +325,13 @@ query_sound text found e =
     }
 
 -- the query of a text is read
-pub query_complete : (text : List ℕ) (names : List Name) (pattern : Pattern) → IsQuery text names pattern → query_at text ≡ Some (names, pattern)
+pub query_complete : (text : List ℕ) (names : List Name) (pattern : Pattern) → IsPatternQuery text names pattern → query_at text ≡ Some (names, pattern)
 unfolding query_at
 query_complete text names pattern is =
     rw (le_true (length text) 262144 is.short, is_utf8-from_IsUtf8 text is.utf8, tokens_of_complete text is.tokens is.are_its) (select_complete is.tokens names pattern is.selects)
 
 -- a text has one query at most
-pub query_unique : (text : List ℕ) (names others : List Name) (pattern other : Pattern) → IsQuery text names pattern → IsQuery text others other → (names ≡ others) × (pattern ≡ other)
+pub query_unique : (text : List ℕ) (names others : List Name) (pattern other : Pattern) → IsPatternQuery text names pattern → IsPatternQuery text others other → (names ≡ others) × (pattern ≡ other)
 query_unique text names others pattern other is is_too =
     let one : List Name × Pattern = (names, pattern) in
     let two : List Name × Pattern = (others, other) in

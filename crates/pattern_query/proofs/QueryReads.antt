@@ -11,8 +11,8 @@ use Rattle.term_core.specs.Patterns.{names_in, pattern_of}
 use Rattle.pattern_query.specs.declared.query.SelectQuery.{SelectQuery}
 use Rattle.pattern_query.specs.declared.query.QueryFault.{QueryFault}
 use Rattle.pattern_query.specs.declared.query.QueryFault.TheVariants as faults
-use Rattle.pattern_query.specs.Query.{IsQuery}
-use Rattle.pattern_query.specs.QueryReading.{Reads, query_at}
+use Rattle.pattern_query.specs.Query.{IsPatternQuery}
+use Rattle.pattern_query.specs.QueryReading.{ReadsAs, query_at}
 use Rattle.pattern_query.proofs.QueryLaws.{query_sound, query_complete}
 use Rattle.pattern_query.proofs.QueryVariables.{selected_variables, pattern_variables}
 
@@ -21,24 +21,24 @@ abbrev parts_of : SelectQuery → List Name × Pattern
 parts_of query = (query.names, query.pattern)
 
 module _ (text : List ℕ) where
-  pub read_found : (result : Result SelectQuery QueryFault) → Reads parts_of result (query_at text) → IfOk result (λ query. IsQuery text query.names query.pattern)
+  pub read_found : (result : Result SelectQuery QueryFault) → ReadsAs parts_of result (query_at text) → IfOk result (λ query. IsPatternQuery text query.names query.pattern)
   read_found (Ok query) read = query_sound text (parts_of query) read
   read_found (Err fault) read = tt
 
-  pub read_form : (result : Result SelectQuery QueryFault) → Reads parts_of result (query_at text) →
-      result ≡ Err faults.Form → (names : List Name) (pattern : Pattern) → IsQuery text names pattern → ⊥
+  pub read_form : (result : Result SelectQuery QueryFault) → ReadsAs parts_of result (query_at text) →
+      result ≡ Err faults.Form → (names : List Name) (pattern : Pattern) → IsPatternQuery text names pattern → ⊥
   read_form (Ok query) read form names pattern is = absurd cc
   read_form (Err faults.Memory) read form names pattern is = absurd cc
   read_form (Err faults.Form) read form names pattern is =
       let some = sym read ∙ query_complete text names pattern is in
       absurd cc
 
-  pub read_selected : (result : Result SelectQuery QueryFault) → Reads parts_of result (query_at text) →
+  pub read_selected : (result : Result SelectQuery QueryFault) → ReadsAs parts_of result (query_at text) →
       IfOk result (λ query. (name : Name) → In query.names name → is_variable name ≡ true)
   read_selected (Ok query) read = selected_variables text query.names query.pattern (query_sound text (parts_of query) read)
   read_selected (Err fault) read = tt
 
-  pub read_variables : (result : Result SelectQuery QueryFault) → Reads parts_of result (query_at text) →
+  pub read_variables : (result : Result SelectQuery QueryFault) → ReadsAs parts_of result (query_at text) →
       IfOk result (λ query. (name : Name) → In (names_in (pattern_of query.pattern)) name → is_variable name ≡ true)
   read_variables (Ok query) read = pattern_variables text query.names query.pattern (query_sound text (parts_of query) read)
   read_variables (Err fault) read = tt

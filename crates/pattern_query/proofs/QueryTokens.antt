@@ -15,9 +15,9 @@ use Rattle.pattern_query.specs.declared.query.QueryFault.TheVariants as faults
 use Rattle.pattern_query.specs.declared.query_text.Token.{Token}
 use Rattle.pattern_query.specs.declared.query_text.Token.TheVariants as kinds
 use Rattle.term_core.specs.Tokens.{is_space}
-use Rattle.pattern_query.specs.Terminals.{is_name, IsIri, IsString}
-use Rattle.pattern_query.specs.Query.{IsWord, IsVariable, IsToken, IsLongest, AreTokens}
-use Rattle.pattern_query.specs.QueryReading.{◌>>=◌, Reads, text_at, iri_at, string_at, token_at, variable_at, word_at, sign_of, tokens_at, tokens_there, tokens_of, with_front}
+use Rattle.pattern_query.specs.Terminals.{is_name, IsPatternIri, IsPatternString}
+use Rattle.pattern_query.specs.Query.{IsPatternWord, IsPatternVariable, IsPatternToken, IsLongestToken, AreTokens}
+use Rattle.pattern_query.specs.QueryReading.{◌>>=◌, ReadsAs, text_at, iri_front, string_front, token_at, variable_front, word_at, sign_token, tokens_at, tokens_there, tokens_of, with_front}
 use Rattle.pattern_query.proofs.Utf8.{text_at_utf8}
 use Rattle.pattern_query.proofs.TerminalLaws.{bind_some, some_is, parts, passes, behind_stops, stops, iri_sound, iri_complete, string_sound, string_complete}
 
@@ -79,7 +79,7 @@ name_text name all = text_at_utf8 name (IsUtf8-from_ascii name (IsAscii-from_all
 record Spells (text : List ℕ) (token : Token) (rest : List ℕ) : Type 0 where
   pub front : List ℕ
   pub spelled : text ≡ front ++ rest
-  pub is_token : IsToken front token
+  pub is_token : IsPatternToken front token
 
 abbrev as_iri : List ℕ × List ℕ → Option (Token × List ℕ)
 as_iri found = Some (kinds.Iri found.0, found.1)
@@ -94,9 +94,9 @@ as_sign rest sign = Some (sign, rest)
 closed : (first last : ℕ) (inner rest : List ℕ) → first ∷ (inner ++ last ∷ rest) ≡ (first ∷ (inner ++ last ∷ [])) ++ rest
 closed first last inner rest = ap (λ l. first ∷ l) (sym (append_assoc inner (last ∷ []) rest))
 
-iri_spelled : (text : List ℕ) (found : Token × List ℕ) → (iri_at text >>= as_iri) ≡ Some found → Spells text found.0 found.1
+iri_spelled : (text : List ℕ) (found : Token × List ℕ) → (iri_front text >>= as_iri) ≡ Some found → Spells text found.0 found.1
 iri_spelled text found e =
-    let a = bind_some (iri_at text) as_iri found e in
+    let a = bind_some (iri_front text) as_iri found e in
     let h = iri_sound text a.0.0 a.0.1 a.1 in
     let made : Token × List ℕ = (kinds.Iri a.0.0, a.0.1) in
     subst (λ (p : Token × List ℕ). Spells text p.0 p.1) (some_is made found a.2) (record {
@@ -105,9 +105,9 @@ iri_spelled text found e =
       is_token = record { spelled = refl; characters = h.characters; scheme = h.scheme };
     })
 
-quoted_spelled : (text : List ℕ) (found : Token × List ℕ) → (string_at text >>= as_quoted) ≡ Some found → Spells text found.0 found.1
+quoted_spelled : (text : List ℕ) (found : Token × List ℕ) → (string_front text >>= as_quoted) ≡ Some found → Spells text found.0 found.1
 quoted_spelled text found e =
-    let a = bind_some (string_at text) as_quoted found e in
+    let a = bind_some (string_front text) as_quoted found e in
     let h = string_sound text a.0.0 a.0.1 a.1 in
     let made : Token × List ℕ = (kinds.Quoted a.0.0, a.0.1) in
     subst (λ (p : Token × List ℕ). Spells text p.0 p.1) (some_is made found a.2) (record {
@@ -121,8 +121,8 @@ word_is : (text : List ℕ) → word_at text ≡ Some (kinds.Word (front is_name
 unfolding word_at
 word_is text = rw (name_text (front is_name text) (passes is_name text)) refl
 
-variable_is : (c : ℕ) (text : List ℕ) → is_name c ≡ true → variable_at (c ∷ text) ≡ Some (kinds.Variable (front is_name (c ∷ text)), after is_name (c ∷ text))
-unfolding variable_at
+variable_is : (c : ℕ) (text : List ℕ) → is_name c ≡ true → variable_front (c ∷ text) ≡ Some (kinds.Variable (front is_name (c ∷ text)), after is_name (c ∷ text))
+unfolding variable_front
 variable_is c text h = rw (h, name_text (c ∷ front is_name text) (rw h (passes is_name text))) refl
 
 letter_name : (c : ℕ) → is_letter c ≡ true → is_name c ≡ true
@@ -141,8 +141,8 @@ word_spelled c text found letter e =
 is_some_name : (c : ℕ) (text : List ℕ) → is_name c ≡ true → front is_name (c ∷ text) ≡ [] → ⊥
 is_some_name c text h = rw h (λ (e : c ∷ front is_name text ≡ []). absurd cc)
 
-variable_spelled : (sign : ℕ) (text : List ℕ) (found : Token × List ℕ) → (sign ≡ 63) ⊎ (sign ≡ 36) → variable_at text ≡ Some found → Spells (sign ∷ text) found.0 found.1
-unfolding variable_at
+variable_spelled : (sign : ℕ) (text : List ℕ) (found : Token × List ℕ) → (sign ≡ 63) ⊎ (sign ≡ 36) → variable_front text ≡ Some found → Spells (sign ∷ text) found.0 found.1
+unfolding variable_front
 variable_spelled sign [] found is e = absurd cc
 variable_spelled sign (c ∷ text) found is e =
     let g = guarded (is_name c) _ found e in
@@ -157,17 +157,17 @@ variable_spelled sign (c ∷ text) found is e =
       };
     })
 
-sign_spelled : (c : ℕ) (sign : Token) → sign_of c ≡ Some sign → IsToken (c ∷ []) sign
-unfolding sign_of
+sign_spelled : (c : ℕ) (sign : Token) → sign_token c ≡ Some sign → IsPatternToken (c ∷ []) sign
+unfolding sign_token
 sign_spelled c sign e = elim (choose (eqb c 42) (Some kinds.Star) _ sign e) [
-  | inl h ↦ subst (IsToken (c ∷ [])) (some_is kinds.Star sign h.1) (ap (λ d. d ∷ []) (eqb-true c 42 h.0))
+  | inl h ↦ subst (IsPatternToken (c ∷ [])) (some_is kinds.Star sign h.1) (ap (λ d. d ∷ []) (eqb-true c 42 h.0))
   | inr h ↦ elim (choose (eqb c 123) (Some kinds.Open) _ sign h.1) [
-    | inl h ↦ subst (IsToken (c ∷ [])) (some_is kinds.Open sign h.1) (ap (λ d. d ∷ []) (eqb-true c 123 h.0))
+    | inl h ↦ subst (IsPatternToken (c ∷ [])) (some_is kinds.Open sign h.1) (ap (λ d. d ∷ []) (eqb-true c 123 h.0))
     | inr h ↦ elim (choose (eqb c 125) (Some kinds.Close) _ sign h.1) [
-      | inl h ↦ subst (IsToken (c ∷ [])) (some_is kinds.Close sign h.1) (ap (λ d. d ∷ []) (eqb-true c 125 h.0))
+      | inl h ↦ subst (IsPatternToken (c ∷ [])) (some_is kinds.Close sign h.1) (ap (λ d. d ∷ []) (eqb-true c 125 h.0))
       | inr h ↦
           let last = guarded (eqb c 46) (Some kinds.Dot) sign h.1 in
-          subst (IsToken (c ∷ [])) (some_is kinds.Dot sign last.1) (ap (λ d. d ∷ []) (eqb-true c 46 last.0))
+          subst (IsPatternToken (c ∷ [])) (some_is kinds.Dot sign last.1) (ap (λ d. d ∷ []) (eqb-true c 46 last.0))
     ]
   ]
 ]
@@ -176,16 +176,16 @@ sign_spelled c sign e = elim (choose (eqb c 42) (Some kinds.Star) _ sign e) [
 spelled_of : (text : List ℕ) (found : Token × List ℕ) → token_at text ≡ Some found → Spells text found.0 found.1
 unfolding token_at
 spelled_of [] found e = absurd cc
-spelled_of (c ∷ rest) found e = elim (choose (eqb c 60) (iri_at (c ∷ rest) >>= as_iri) _ found e) [
+spelled_of (c ∷ rest) found e = elim (choose (eqb c 60) (iri_front (c ∷ rest) >>= as_iri) _ found e) [
   | inl h ↦ iri_spelled (c ∷ rest) found h.1
-  | inr h ↦ elim (choose (eqb c 34) (string_at (c ∷ rest) >>= as_quoted) _ found h.1) [
+  | inr h ↦ elim (choose (eqb c 34) (string_front (c ∷ rest) >>= as_quoted) _ found h.1) [
     | inl h ↦ quoted_spelled (c ∷ rest) found h.1
-    | inr h ↦ elim (choose (eqb c 63 || eqb c 36) (variable_at rest) _ found h.1) [
+    | inr h ↦ elim (choose (eqb c 63 || eqb c 36) (variable_front rest) _ found h.1) [
       | inl h ↦ variable_spelled c rest found (elim (or_true (eqb c 63) (eqb c 36) h.0) [ inl e ↦ inl (eqb-true c 63 e) | inr e ↦ inr (eqb-true c 36 e) ]) h.1
       | inr h ↦ elim (choose (is_letter c) (word_at (c ∷ rest)) _ found h.1) [
         | inl h ↦ word_spelled c rest found h.0 h.1
         | inr h ↦
-            let a = bind_some (sign_of c) (as_sign rest) found h.1 in
+            let a = bind_some (sign_token c) (as_sign rest) found h.1 in
             let made : Token × List ℕ = (a.0, rest) in
             subst (λ (p : Token × List ℕ). Spells (c ∷ rest) p.0 p.1) (some_is made found a.2) (record { front = c ∷ []; spelled = refl; is_token = sign_spelled c a.0 a.1 })
       ]
@@ -218,14 +218,14 @@ word_there : (c : ℕ) (text : List ℕ) → is_letter c ≡ true → token_at (
 unfolding token_at
 word_there c text h = rw (letter_no_iri c h, letter_no_quote c h, letter_no_sign c h, h) refl
 
-word_found : (word rest : List ℕ) → IsWord word → begins is_name rest ≡ false → token_at (word ++ rest) ≡ Some (kinds.Word word, rest)
+word_found : (word rest : List ℕ) → IsPatternWord word → begins is_name rest ≡ false → token_at (word ++ rest) ≡ Some (kinds.Word word, rest)
 word_found [] rest is ends = absurd cc
 word_found (c ∷ word) rest is ends =
     let s = stops is_name (c ∷ word) rest is.all ends in
     word_there c (word ++ rest) is.first ∙ word_is (c ∷ word ++ rest) ∙ (λ i. Some (kinds.Word (s.front i), s.after i))
 
 -- a sign and a name make a variable
-variable_there : (sign : ℕ) (text : List ℕ) → (sign ≡ 63) ⊎ (sign ≡ 36) → token_at (sign ∷ text) ≡ variable_at text
+variable_there : (sign : ℕ) (text : List ℕ) → (sign ≡ 63) ⊎ (sign ≡ 36) → token_at (sign ∷ text) ≡ variable_front text
 unfolding token_at
 variable_there sign text is = elim is [
   | inl e ↦ ap (λ s. token_at (s ∷ text)) e
@@ -242,27 +242,27 @@ variable_found sign (c ∷ name) rest is some all ends =
     ∙ (λ i. Some (kinds.Variable (s.front i), s.after i))
 
 -- the sign of a variable's text
-sign_and_name : (text name : List ℕ) → IsVariable text name → (sign : ℕ) × ((sign ≡ 63) ⊎ (sign ≡ 36)) × (text ≡ sign ∷ name)
+sign_and_name : (text name : List ℕ) → IsPatternVariable text name → (sign : ℕ) × ((sign ≡ 63) ⊎ (sign ≡ 36)) × (text ≡ sign ∷ name)
 sign_and_name text name is = elim is.spelled [
   | inl e ↦ (63, inl refl, e)
   | inr e ↦ (36, inr refl, e)
 ]
 
-iri_found : (text iri rest : List ℕ) → IsIri text iri [] → token_at (text ++ rest) ≡ Some (kinds.Iri iri, rest)
+iri_found : (text iri rest : List ℕ) → IsPatternIri text iri [] → token_at (text ++ rest) ≡ Some (kinds.Iri iri, rest)
 unfolding token_at
 iri_found text iri rest is =
     ap token_at (ap (λ t. t ++ rest) is.spelled ∙ sym (closed 60 62 iri rest))
     ∙ rw (iri_complete (60 ∷ (iri ++ 62 ∷ rest)) iri rest (record { spelled = refl; characters = is.characters; scheme = is.scheme })) refl
 
-quoted_found : (text lexical rest : List ℕ) → IsString text lexical [] → token_at (text ++ rest) ≡ Some (kinds.Quoted lexical, rest)
+quoted_found : (text lexical rest : List ℕ) → IsPatternString text lexical [] → token_at (text ++ rest) ≡ Some (kinds.Quoted lexical, rest)
 unfolding token_at
 quoted_found text lexical rest is =
     ap token_at (ap (λ t. t ++ rest) is.spelled ∙ sym (closed 34 34 lexical rest))
     ∙ rw (string_complete (34 ∷ (lexical ++ 34 ∷ rest)) lexical rest (record { spelled = refl; characters = is.characters })) refl
 
 -- a token that stands before where it has to end is read
-found_of : (token : Token) (text rest : List ℕ) → IsToken text token → Ends token rest → token_at (text ++ rest) ≡ Some (token, rest)
-unfolding token_at sign_of
+found_of : (token : Token) (text rest : List ℕ) → IsPatternToken text token → Ends token rest → token_at (text ++ rest) ≡ Some (token, rest)
+unfolding token_at sign_token
 found_of (kinds.Word word) text rest is ends = ap (λ t. token_at (t ++ rest)) is.0 ∙ word_found word rest is.1 ends
 found_of (kinds.Variable name) text rest is ends =
     let s = sign_and_name text name is in
@@ -284,11 +284,11 @@ more_name name rest all = all_append is_name name (front is_name rest) all (pass
 more_text : (name rest : List ℕ) → name ++ rest ≡ (name ++ front is_name rest) ++ after is_name rest
 more_text name rest = ap (λ r. name ++ r) (sym (parts is_name rest)) ∙ sym (append_assoc name (front is_name rest) (after is_name rest))
 
-more_word : (word rest : List ℕ) → IsWord word → IsWord (word ++ front is_name rest)
+more_word : (word rest : List ℕ) → IsPatternWord word → IsPatternWord (word ++ front is_name rest)
 more_word [] rest is = absurd cc
 more_word (c ∷ word) rest is = record { first = is.first; all = more_name (c ∷ word) rest is.all }
 
-more_variable : (text name rest : List ℕ) → IsVariable text name → IsVariable (text ++ front is_name rest) (name ++ front is_name rest)
+more_variable : (text name rest : List ℕ) → IsPatternVariable text name → IsPatternVariable (text ++ front is_name rest) (name ++ front is_name rest)
 more_variable text [] rest is = absurd (is.some refl)
 more_variable text (c ∷ name) rest is = record {
   spelled = elim is.spelled [ inl e ↦ inl (ap (λ t. t ++ front is_name rest) e) | inr e ↦ inr (ap (λ t. t ++ front is_name rest) e) ];
@@ -304,7 +304,7 @@ record Reaches (text : List ℕ) (behind : List ℕ) : Type 0 where
   pub within : length rest ≤ length behind
 
 -- where a token begins, one that is no shorter is read
-reaches : (other : Token) (longer behind : List ℕ) → IsToken longer other → Reaches (longer ++ behind) behind
+reaches : (other : Token) (longer behind : List ℕ) → IsPatternToken longer other → Reaches (longer ++ behind) behind
 reaches (kinds.Word word) longer behind is = record {
   token = kinds.Word (word ++ front is_name behind);
   rest = after is_name behind;
@@ -329,7 +329,7 @@ reaches kinds.Close longer behind is = record { token = kinds.Close; rest = behi
 reaches kinds.Dot longer behind is = record { token = kinds.Dot; rest = behind; is = found_of kinds.Dot longer behind is tt; within = omega arith }
 
 -- a token that is read is the longest that begins there
-pub token_sound : (text : List ℕ) (found : Token × List ℕ) → token_at text ≡ Some found → IsLongest text found.0 found.1
+pub token_sound : (text : List ℕ) (found : Token × List ℕ) → token_at text ≡ Some found → IsLongestToken text found.0 found.1
 token_sound text found e =
     let s = spelled_of text found e in
     record {
@@ -348,7 +348,7 @@ token_sound text found e =
     }
 
 -- the longest token ends where it has to
-ends_of : (text : List ℕ) (token : Token) (rest : List ℕ) → (is : IsLongest text token rest) → Ends token rest
+ends_of : (text : List ℕ) (token : Token) (rest : List ℕ) → (is : IsLongestToken text token rest) → Ends token rest
 ends_of text (kinds.Word word) rest is =
     let longer : length (is.front ++ front is_name rest) ≤ length is.front =
     is.longest (is.front ++ front is_name rest) (after is_name rest) (kinds.Word (word ++ front is_name rest))
@@ -369,7 +369,7 @@ ends_of text kinds.Close rest is = tt
 ends_of text kinds.Dot rest is = tt
 
 -- the longest token that begins there is read
-pub token_complete : (text : List ℕ) (token : Token) (rest : List ℕ) → IsLongest text token rest → token_at text ≡ Some (token, rest)
+pub token_complete : (text : List ℕ) (token : Token) (rest : List ℕ) → IsLongestToken text token rest → token_at text ≡ Some (token, rest)
 token_complete text token rest is = ap token_at is.spelled ∙ found_of token is.front rest is.is_token (ends_of text token rest is)
 
 -- ---- all tokens
@@ -381,7 +381,7 @@ record Begins (text : List ℕ) : Type 0 where
   pub is : text ≡ first ∷ more
   pub no_space : is_space first ≡ false
 
-token_begins : (text : List ℕ) (token : Token) → IsToken text token → Begins text
+token_begins : (text : List ℕ) (token : Token) → IsPatternToken text token → Begins text
 token_begins text (kinds.Word []) is = absurd cc
 token_begins text (kinds.Word (c ∷ word)) is = record { first = c; more = word; is = is.0; no_space = letter_no_space c is.1.first }
 token_begins text (kinds.Variable name) is = elim is.spelled [
@@ -396,12 +396,12 @@ token_begins text kinds.Close is = record { first = 125; more = []; is = is; no_
 token_begins text kinds.Dot is = record { first = 46; more = []; is = is; no_space = refl }
 
 -- the same of the text that it begins
-longest_begins : (text : List ℕ) (token : Token) (rest : List ℕ) → IsLongest text token rest → Begins text
+longest_begins : (text : List ℕ) (token : Token) (rest : List ℕ) → IsLongestToken text token rest → Begins text
 longest_begins text token rest is =
     let b = token_begins is.front token is.is_token in
     record { first = b.first; more = b.more ++ rest; is = is.spelled ∙ ap (λ f. f ++ rest) b.is; no_space = b.no_space }
 
-longest_shorter : (text : List ℕ) (token : Token) (rest : List ℕ) → IsLongest text token rest → length rest < length text
+longest_shorter : (text : List ℕ) (token : Token) (rest : List ℕ) → IsLongestToken text token rest → length rest < length text
 longest_shorter text token rest is =
     let b = token_begins is.front token is.is_token in
     let lengths : length text ≡ length is.front + length rest = ap length is.spelled ∙ length-append is.front rest in
@@ -449,7 +449,7 @@ no_more zero = refl
 no_more (suc room) = refl
 
 -- the first token is read, and then the others
-read_first : (there : List ℕ) (token : Token) (rest : List ℕ) (tokens : List Token) → IsLongest there token rest →
+read_first : (there : List ℕ) (token : Token) (rest : List ℕ) (tokens : List Token) → IsLongestToken there token rest →
     ((room : ℕ) → length (after is_space rest) ≤ room → tokens_at room (after is_space rest) ≡ Some tokens) →
     (room first : ℕ) (others : List ℕ) → there ≡ first ∷ others → length there ≤ room → tokens_at room there ≡ Some (token ∷ tokens)
 unfolding tokens_at
@@ -532,7 +532,7 @@ goes_wrong (c ∷ text) tokens all some e so_far = sym so_far ∙ ap (with_front
 
 -- a fault at a token is the fault of the text
 pub fault_kept : (fault : QueryFault) (text : List ℕ) (tokens : List Token) (all : Option (List Token)) → (text ≡ [] → ⊥) →
-    Reads (λ (found : Token × List ℕ). found) (Err fault) (token_at text) → with_front tokens (tokens_there text) ≡ all → Reads (λ (found : List Token). found) (Err fault) all
+    ReadsAs (λ (found : Token × List ℕ). found) (Err fault) (token_at text) → with_front tokens (tokens_there text) ≡ all → ReadsAs (λ (found : List Token). found) (Err fault) all
 fault_kept faults.Form text tokens all some none so_far = goes_wrong text tokens all some none so_far
 fault_kept faults.Memory text tokens all some none so_far = tt
 

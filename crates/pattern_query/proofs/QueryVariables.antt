@@ -15,7 +15,7 @@ use Rattle.term_core.specs.Characters.{AreAll}
 use Rattle.pattern_query.specs.declared.query_text.Token.{Token}
 use Rattle.pattern_query.specs.declared.query_text.Token.TheVariants as kinds
 use Rattle.pattern_query.specs.Terminals.{is_name}
-use Rattle.pattern_query.specs.Query.{IsToken, AreTokens, IsVariableOrIri, IsObject, variables_at, variables_of, with_name, with_new, IsSelect, IsQuery}
+use Rattle.pattern_query.specs.Query.{IsPatternToken, AreTokens, IsVariableOrIri, IsPatternObject, variables_at, variables_of, with_name, with_new, IsPatternSelect, IsPatternQuery}
 
 -- ---- names of variables
 
@@ -39,7 +39,7 @@ name_is name all = apart.variable name (no_colon name all)
 token_names : (text : List ℕ) (tokens : List Token) (name : Name) → AreTokens text tokens → In tokens (kinds.Variable name) → is_variable name ≡ true
 token_names text [] name are is = absurd is
 token_names text (token ∷ tokens) name (spaces, there, rest, spelled, all, longest, more) is = elim is [
-  | inl e ↦ name_is name (subst (IsToken longest.front) e longest.is_token).all
+  | inl e ↦ name_is name (subst (IsPatternToken longest.front) e longest.is_token).all
   | inr later ↦ token_names rest tokens name more later
 ]
 
@@ -56,7 +56,7 @@ spelled_name kinds.Open place name is at = absurd is
 spelled_name kinds.Close place name is at = absurd is
 spelled_name kinds.Dot place name is at = absurd is
 
-object_name : (token : Token) (place : Place) (name : Name) → IsObject token place → In (names_at (position_of place)) name → token ≡ kinds.Variable name
+object_name : (token : Token) (place : Place) (name : Name) → IsPatternObject token place → In (names_at (position_of place)) name → token ≡ kinds.Variable name
 object_name (kinds.Quoted lexical) place name is at = absurd (subst (λ p. In (names_at (position_of p)) name) is at)
 object_name (kinds.Variable own) place name is at = spelled_name (kinds.Variable own) place name is at
 object_name (kinds.Iri iri) place name is at = spelled_name (kinds.Iri iri) place name is at
@@ -106,7 +106,7 @@ kept others name is = elim (from_with_new others [] name is) [ inl none ↦ absu
 
 -- ---- the tokens of a query
 
-module _ (tokens : List Token) (names : List Name) (pattern : Pattern) (is : IsSelect tokens names pattern) where
+module _ (tokens : List Token) (names : List Name) (pattern : Pattern) (is : IsPatternSelect tokens names pattern) where
   abbrev group : List Token
   group = kinds.Open ∷ is.subject ∷ is.predicate ∷ is.object ∷ (is.dot ++ kinds.Close ∷ [])
 
@@ -135,9 +135,9 @@ module _ (tokens : List Token) (names : List Name) (pattern : Pattern) (is : IsS
   ]
 
 -- what a query selects are names of variables
-pub selected_variables : (text : List ℕ) (names : List Name) (pattern : Pattern) → IsQuery text names pattern → (name : Name) → In names name → is_variable name ≡ true
+pub selected_variables : (text : List ℕ) (names : List Name) (pattern : Pattern) → IsPatternQuery text names pattern → (name : Name) → In names name → is_variable name ≡ true
 selected_variables text names pattern is name at = token_names text is.tokens name is.are_its (selected_token is.tokens names pattern is.selects name at)
 
 -- and so are the names in its pattern
-pub pattern_variables : (text : List ℕ) (names : List Name) (pattern : Pattern) → IsQuery text names pattern → (name : Name) → In (names_in (pattern_of pattern)) name → is_variable name ≡ true
+pub pattern_variables : (text : List ℕ) (names : List Name) (pattern : Pattern) → IsPatternQuery text names pattern → (name : Name) → In (names_in (pattern_of pattern)) name → is_variable name ≡ true
 pattern_variables text names pattern is name at = token_names text is.tokens name is.are_its (pattern_token is.tokens names pattern is.selects name at)

@@ -7,8 +7,8 @@ use Rattle.std.specs.Str.{is_utf8}
 use Rattle.std.proofs.lemmas.Str.{IsUtf8-from_is_utf8}
 use Rattle.term_core.specs.Characters.{is_iri, is_plain, AreAll, front, after, begins}
 use Rattle.term_core.specs.Names.{has_scheme}
-use Rattle.pattern_query.specs.Terminals.{AreCharacters, IsIri, IsString}
-use Rattle.pattern_query.specs.QueryReading.{◌>>=◌, expect, text_at, iri_at, string_at}
+use Rattle.pattern_query.specs.Terminals.{AreCharacters, IsPatternIri, IsPatternString}
+use Rattle.pattern_query.specs.QueryReading.{◌>>=◌, past_byte, text_at, iri_front, string_front}
 use Rattle.pattern_query.proofs.Encoded.{characters_of, bytes_of, utf8_of}
 use Rattle.pattern_query.proofs.Utf8.{text_at_utf8}
 
@@ -29,7 +29,7 @@ pub some_is : {A : Type 0} (x y : A) → (let r : Option A = Some x in r ≡ Som
 some_is x y e = cc
 
 -- a byte that is read stands there
-expect_is : (b : ℕ) (text rest : List ℕ) → expect b text ≡ Some rest → text ≡ b ∷ rest
+expect_is : (b : ℕ) (text rest : List ℕ) → past_byte b text ≡ Some rest → text ≡ b ∷ rest
 expect_is b [] rest e = absurd cc
 expect_is b (c ∷ text) rest e =
     let g = guard_some (eqb c b) text rest e in
@@ -94,11 +94,11 @@ string_of body rest = text_at (front is_plain body) >>= string_with rest
 
 module _ (text v rest : List ℕ) where
   -- an IRI that is read stands there
-  pub iri_sound : iri_at text ≡ Some (v, rest) → IsIri text v rest
-  unfolding iri_at
+  pub iri_sound : iri_front text ≡ Some (v, rest) → IsPatternIri text v rest
+  unfolding iri_front
   iri_sound e =
-      let a = bind_some (expect 60 text) (λ body. expect 62 (after is_iri body) >>= iri_of body) (v, rest) e in
-      let b = bind_some (expect 62 (after is_iri a.0)) (iri_of a.0) (v, rest) a.2 in
+      let a = bind_some (past_byte 60 text) (λ body. past_byte 62 (after is_iri body) >>= iri_of body) (v, rest) e in
+      let b = bind_some (past_byte 62 (after is_iri a.0)) (iri_of a.0) (v, rest) a.2 in
       let c = bind_some (text_at (front is_iri a.0)) (iri_if_scheme b.0) (v, rest) b.2 in
       let d = guard_some (has_scheme c.0) (c.0, b.0) (v, rest) c.2 in
       let u = guard_some (is_utf8 (front is_iri a.0)) (front is_iri a.0) c.0 c.1 in
@@ -114,18 +114,18 @@ module _ (text v rest : List ℕ) where
       }
 
   -- an IRI that stands there is read
-  pub iri_complete : IsIri text v rest → iri_at text ≡ Some (v, rest)
-  unfolding iri_at
+  pub iri_complete : IsPatternIri text v rest → iri_front text ≡ Some (v, rest)
+  unfolding iri_front
   iri_complete h =
       let s = stops is_iri v (62 ∷ rest) (bytes_of is_iri iri_wide v h.characters) refl in
-      ap iri_at h.spelled ∙ rw (s.after, s.front, text_at_utf8 v (utf8_of is_iri v h.characters), h.scheme) refl
+      ap iri_front h.spelled ∙ rw (s.after, s.front, text_at_utf8 v (utf8_of is_iri v h.characters), h.scheme) refl
 
   -- a string that is read stands there
-  pub string_sound : string_at text ≡ Some (v, rest) → IsString text v rest
-  unfolding string_at
+  pub string_sound : string_front text ≡ Some (v, rest) → IsPatternString text v rest
+  unfolding string_front
   string_sound e =
-      let a = bind_some (expect 34 text) (λ body. expect 34 (after is_plain body) >>= string_of body) (v, rest) e in
-      let b = bind_some (expect 34 (after is_plain a.0)) (string_of a.0) (v, rest) a.2 in
+      let a = bind_some (past_byte 34 text) (λ body. past_byte 34 (after is_plain body) >>= string_of body) (v, rest) e in
+      let b = bind_some (past_byte 34 (after is_plain a.0)) (string_of a.0) (v, rest) a.2 in
       let c = bind_some (text_at (front is_plain a.0)) (string_with b.0) (v, rest) b.2 in
       let u = guard_some (is_utf8 (front is_plain a.0)) (front is_plain a.0) c.0 c.1 in
       let pair = some_is (c.0, b.0) (v, rest) c.2 in
@@ -138,8 +138,8 @@ module _ (text v rest : List ℕ) where
       }
 
   -- a string that stands there is read
-  pub string_complete : IsString text v rest → string_at text ≡ Some (v, rest)
-  unfolding string_at
+  pub string_complete : IsPatternString text v rest → string_front text ≡ Some (v, rest)
+  unfolding string_front
   string_complete h =
       let s = stops is_plain v (34 ∷ rest) (bytes_of is_plain plain_wide v h.characters) refl in
-      ap string_at h.spelled ∙ rw (s.after, s.front, text_at_utf8 v (utf8_of is_plain v h.characters)) refl
+      ap string_front h.spelled ∙ rw (s.after, s.front, text_at_utf8 v (utf8_of is_plain v h.characters)) refl

@@ -12,44 +12,44 @@ use Rattle.term_core.specs.Characters.{is_letter, AreAll, begins}
 use Rattle.pattern_query.specs.declared.query_text.Token.{Token}
 use Rattle.pattern_query.specs.declared.query_text.Token.TheVariants as kinds
 use Rattle.term_core.specs.Tokens.{is_space}
-use Rattle.pattern_query.specs.Terminals.{is_name, IsIri, IsString}
+use Rattle.pattern_query.specs.Terminals.{is_name, IsPatternIri, IsPatternString}
 
 -- ---- tokens
 
 -- a letter, then letters, digits and _ (SPARQL 1.1 19.8, the keywords)
-pub record IsWord (word : List ℕ) : Type 0 where
+pub record IsPatternWord (word : List ℕ) : Type 0 where
   pub first : begins is_letter word ≡ true
   pub all : AreAll is_name word
 
 -- ? or $, then a letter, digit or _ or more of them (SPARQL 1.1 19.8, VAR1 and VAR2)
-pub record IsVariable (text : List ℕ) (name : Name) : Type 0 where
+pub record IsPatternVariable (text : List ℕ) (name : Name) : Type 0 where
   pub spelled : (text ≡ codes "?" ++ name) ⊎ (text ≡ codes "$" ++ name)
   pub some : name ≢ []
   pub all : AreAll is_name name
 
 -- the text of each token: all of it, and nothing behind it (SPARQL 1.1 19.8)
-abbrev pub IsToken : List ℕ → Token → Type 0
-IsToken text (kinds.Word word) = (text ≡ word) × IsWord word
-IsToken text (kinds.Variable name) = IsVariable text name
-IsToken text (kinds.Iri iri) = IsIri text iri []
-IsToken text (kinds.Quoted lexical) = IsString text lexical []
-IsToken text kinds.Star = text ≡ codes "*"
-IsToken text kinds.Open = text ≡ codes "{"
-IsToken text kinds.Close = text ≡ codes "}"
-IsToken text kinds.Dot = text ≡ codes "."
+abbrev pub IsPatternToken : List ℕ → Token → Type 0
+IsPatternToken text (kinds.Word word) = (text ≡ word) × IsPatternWord word
+IsPatternToken text (kinds.Variable name) = IsPatternVariable text name
+IsPatternToken text (kinds.Iri iri) = IsPatternIri text iri []
+IsPatternToken text (kinds.Quoted lexical) = IsPatternString text lexical []
+IsPatternToken text kinds.Star = text ≡ codes "*"
+IsPatternToken text kinds.Open = text ≡ codes "{"
+IsPatternToken text kinds.Close = text ≡ codes "}"
+IsPatternToken text kinds.Dot = text ≡ codes "."
 
 -- the text begins with the token, goes on with rest, and begins with none that is longer (SPARQL 1.1 19.8: the longest match)
-pub record IsLongest (text : List ℕ) (token : Token) (rest : List ℕ) : Type 0 where
+pub record IsLongestToken (text : List ℕ) (token : Token) (rest : List ℕ) : Type 0 where
   pub front : List ℕ
   pub spelled : text ≡ front ++ rest
-  pub is_token : IsToken front token
-  pub longest : (longer behind : List ℕ) (other : Token) → IsToken longer other → text ≡ longer ++ behind → length longer ≤ length front
+  pub is_token : IsPatternToken front token
+  pub longest : (longer behind : List ℕ) (other : Token) → IsPatternToken longer other → text ≡ longer ++ behind → length longer ≤ length front
 
 -- the tokens of a text, in order, with spaces before, between and behind (SPARQL 1.1 19.3)
 abbrev pub AreTokens : List ℕ → List Token → Type 0
 AreTokens text [] = AreAll is_space text
 AreTokens text (token ∷ tokens) =
-    (spaces there rest : List ℕ) × (text ≡ spaces ++ there) × AreAll is_space spaces × IsLongest there token rest × AreTokens rest tokens
+    (spaces there rest : List ℕ) × (text ≡ spaces ++ there) × AreAll is_space spaces × IsLongestToken there token rest × AreTokens rest tokens
 
 -- ---- the query
 
@@ -58,8 +58,8 @@ abbrev pub is_keyword : List ℕ → List ℕ → Bool
 is_keyword keyword word = str_eq_ignore_ascii_case word keyword
 
 -- WHERE, or nothing (SPARQL 1.1 19.8, WhereClause)
-abbrev pub IsWhere : List Token → Type 0
-IsWhere tokens = (tokens ≡ []) ⊎ ((word : List ℕ) × (tokens ≡ kinds.Word word ∷ []) × (is_keyword (codes "WHERE") word ≡ true))
+abbrev pub IsPatternWhere : List Token → Type 0
+IsPatternWhere tokens = (tokens ≡ []) ⊎ ((word : List ℕ) × (tokens ≡ kinds.Word word ∷ []) × (is_keyword (codes "WHERE") word ≡ true))
 
 -- a dot, or nothing (SPARQL 1.1 19.8, TriplesBlock)
 abbrev pub IsDot : List Token → Type 0
@@ -72,9 +72,9 @@ IsVariableOrIri (kinds.Iri iri) place = place ≡ places.Term (terms.Iri iri)
 IsVariableOrIri token place = ⊥
 
 -- a variable, an IRI or a string, which is a literal of xsd:string without a tag (SPARQL 1.1 19.8, VarOrTerm; 4.1.2)
-abbrev pub IsObject : Token → Place → Type 0
-IsObject (kinds.Quoted lexical) place = place ≡ places.Term (terms.Literal lexical xsd_string [])
-IsObject token place = IsVariableOrIri token place
+abbrev pub IsPatternObject : Token → Place → Type 0
+IsPatternObject (kinds.Quoted lexical) place = place ≡ places.Term (terms.Literal lexical xsd_string [])
+IsPatternObject token place = IsVariableOrIri token place
 
 -- the variables at a place
 abbrev pub variables_at : Place → List Name
@@ -96,33 +96,33 @@ with_new names [] = names
 with_new names (name ∷ others) = with_new (with_name names name) others
 
 -- `*` for the variables of the pattern, or variables; each counts once, at its first place (SPARQL 1.1 19.8, SelectClause; 16.1)
-abbrev pub IsSelection : List Token → Pattern → List Name → Type 0
-IsSelection tokens pattern names =
+abbrev pub IsPatternSelection : List Token → Pattern → List Name → Type 0
+IsPatternSelection tokens pattern names =
     ((tokens ≡ kinds.Star ∷ []) × (names ≡ with_new [] (variables_of pattern)))
     ⊎ ((first : Name) × (others : List Name) × (tokens ≡ map kinds.Variable (first ∷ others)) × (names ≡ with_new [] (first ∷ others)))
 
 -- SELECT, what is selected, WHERE or nothing, and in braces one triple pattern with a dot or none (SPARQL 1.1 19.8, SelectQuery)
-pub record IsSelect (tokens : List Token) (names : List Name) (pattern : Pattern) : Type 0 where
+pub record IsPatternSelect (tokens : List Token) (names : List Name) (pattern : Pattern) : Type 0 where
   pub word : List ℕ
   pub is_word : is_keyword (codes "SELECT") word ≡ true
   pub selection : List Token
-  pub is_selection : IsSelection selection pattern names
+  pub is_selection : IsPatternSelection selection pattern names
   pub where_word : List Token
-  pub is_where : IsWhere where_word
+  pub is_where : IsPatternWhere where_word
   pub subject : Token
   pub is_subject : IsVariableOrIri subject pattern.subject
   pub predicate : Token
   pub is_predicate : IsVariableOrIri predicate pattern.predicate
   pub object : Token
-  pub is_object : IsObject object pattern.object
+  pub is_object : IsPatternObject object pattern.object
   pub dot : List Token
   pub is_dot : IsDot dot
   pub spelled : tokens ≡ kinds.Word word ∷ (selection ++ (where_word ++ (kinds.Open ∷ subject ∷ predicate ∷ object ∷ (dot ++ kinds.Close ∷ []))))
 
 -- a query: UTF-8 of at most 262,144 bytes whose tokens select (SPARQL 1.1 19.8, QueryUnit)
-pub record IsQuery (text : List ℕ) (names : List Name) (pattern : Pattern) : Type 0 where
+pub record IsPatternQuery (text : List ℕ) (names : List Name) (pattern : Pattern) : Type 0 where
   pub short : length text ≤ 262144
   pub utf8 : IsUtf8 text
   pub tokens : List Token
   pub are_its : AreTokens text tokens
-  pub selects : IsSelect tokens names pattern
+  pub selects : IsPatternSelect tokens names pattern

@@ -27,52 +27,52 @@ abbrev pub ◌>>=◌ : {A B : Type 0} → Option A → (A → Option B) → Opti
 None >>= f = None
 
 -- A reader gives what reading gives, unless memory ran out: `Form` comes exactly where nothing is read.
-abbrev pub Reads : {X Y : Type 0} → (X → Y) → Result X QueryFault → Option Y → Type 0
-Reads view (Ok x) read = read ≡ Some (view x)
-Reads view (Err faults.Form) read = read ≡ None
-Reads view (Err faults.Memory) read = Unit {0}
+abbrev pub ReadsAs : {X Y : Type 0} → (X → Y) → Result X QueryFault → Option Y → Type 0
+ReadsAs view (Ok x) read = read ≡ Some (view x)
+ReadsAs view (Err faults.Form) read = read ≡ None
+ReadsAs view (Err faults.Memory) read = Unit {0}
 
 -- ---- terminals
 
 -- a byte, and what is behind it
-abbrev pub expect : ℕ → List ℕ → Option (List ℕ)
-expect b [] = None
-expect b (c ∷ rest) = if c == b then Some rest else None
+abbrev pub past_byte : ℕ → List ℕ → Option (List ℕ)
+past_byte b [] = None
+past_byte b (c ∷ rest) = if c == b then Some rest else None
 
 -- the bytes, if they are UTF-8 (RFC 3629 4)
 abbrev pub text_at : List ℕ → Option (List ℕ)
 text_at bytes = if is_utf8 bytes then Some bytes else None
 
 -- an IRI, and what is behind it (SPARQL 1.1 19.8, IRIREF)
-unfoldable pub iri_at : List ℕ → Option (List ℕ × List ℕ)
-iri_at bytes = do
-  body ← expect 60 bytes
-  rest ← expect 62 (after is_iri body)
+unfoldable pub iri_front : List ℕ → Option (List ℕ × List ℕ)
+iri_front bytes = do
+  body ← past_byte 60 bytes
+  rest ← past_byte 62 (after is_iri body)
   iri ← text_at (front is_iri body)
   if has_scheme iri then Some (iri, rest) else None
 
 -- a string's characters, and what is behind it (SPARQL 1.1 19.8, STRING_LITERAL2)
-unfoldable pub string_at : List ℕ → Option (List ℕ × List ℕ)
-string_at bytes = do
-  body ← expect 34 bytes
-  rest ← expect 34 (after is_plain body)
+unfoldable pub string_front : List ℕ → Option (List ℕ × List ℕ)
+string_front bytes = do
+  body ← past_byte 34 bytes
+  rest ← past_byte 34 (after is_plain body)
   lexical ← text_at (front is_plain body)
   Some (lexical, rest)
 
 -- ---- tokens
 
 -- a variable whose sign is read already, and what is behind it
-unfoldable pub variable_at : List ℕ → Option (Token × List ℕ)
-variable_at [] = None
-variable_at (c ∷ text) = if is_name c then (text_at (front is_name (c ∷ text)) >>= λ name. Some (kinds.Variable name, after is_name (c ∷ text))) else None
+unfoldable pub variable_front : List ℕ → Option (Token × List ℕ)
+variable_front [] = None
+variable_front (c ∷ text) = if is_name c then (text_at (front is_name (c ∷ text)) >>= λ name. Some (kinds.Variable name, after is_name (c ∷ text))) else None
 
 -- a word, and what is behind it
 unfoldable pub word_at : List ℕ → Option (Token × List ℕ)
 word_at text = text_at (front is_name text) >>= λ word. Some (kinds.Word word, after is_name text)
 
 -- the sign that a byte is
-unfoldable pub sign_of : ℕ → Option Token
-sign_of c =
+unfoldable pub sign_token : ℕ → Option Token
+sign_token c =
     if c == 42 then Some kinds.Star
     else if c == 123 then Some kinds.Open
     else if c == 125 then Some kinds.Close
@@ -83,11 +83,11 @@ sign_of c =
 unfoldable pub token_at : List ℕ → Option (Token × List ℕ)
 token_at [] = None
 token_at (c ∷ rest) =
-    if c == 60 then (iri_at (c ∷ rest) >>= λ found. Some (kinds.Iri found.0, found.1))
-    else if c == 34 then (string_at (c ∷ rest) >>= λ found. Some (kinds.Quoted found.0, found.1))
-    else if c == 63 || c == 36 then variable_at rest
+    if c == 60 then (iri_front (c ∷ rest) >>= λ found. Some (kinds.Iri found.0, found.1))
+    else if c == 34 then (string_front (c ∷ rest) >>= λ found. Some (kinds.Quoted found.0, found.1))
+    else if c == 63 || c == 36 then variable_front rest
     else if is_letter c then word_at (c ∷ rest)
-    else (sign_of c >>= λ sign. Some (sign, rest))
+    else (sign_token c >>= λ sign. Some (sign, rest))
 
 -- the tokens of a text that does not begin with a space, where so many at most are read
 unfoldable pub tokens_at : ℕ → List ℕ → Option (List Token)
@@ -110,10 +110,6 @@ with_front found read = read >>= λ others. Some (found ++ others)
 
 -- ---- the query
 
--- the set has the texts that are among the names
-abbrev pub HasNames : BTreeSet (String Global) → List Name → Type 0
-HasNames seen names = (text : List ℕ) → contains_text seen text ≡ has_name names text
-
 -- a variable or an IRI
 abbrev pub place_at : Token → Option Place
 place_at (kinds.Variable name) = Some (places.Var name)
@@ -121,9 +117,9 @@ place_at (kinds.Iri iri) = Some (places.Term (terms.Iri iri))
 place_at token = None
 
 -- a variable, an IRI or a string
-abbrev pub object_at : Token → Option Place
-object_at (kinds.Quoted lexical) = Some (places.Term (terms.Literal lexical xsd_string []))
-object_at token = place_at token
+abbrev pub object_place : Token → Option Place
+object_place (kinds.Quoted lexical) = Some (places.Term (terms.Literal lexical xsd_string []))
+object_place token = place_at token
 
 -- a closing brace, with a dot before it or none, and nothing behind it
 abbrev pub is_end : List Token → Bool
@@ -135,7 +131,7 @@ is_end tokens = false
 unfoldable pub group_at : List Token → Option Pattern
 group_at (kinds.Open ∷ subject ∷ predicate ∷ object ∷ rest) =
     if is_end rest
-    then (place_at subject >>= λ s. place_at predicate >>= λ p. object_at object >>= λ o. Some (record { subject = s; predicate = p; object = o }))
+    then (place_at subject >>= λ s. place_at predicate >>= λ p. object_place object >>= λ o. Some (record { subject = s; predicate = p; object = o }))
     else None
 group_at tokens = None
 

@@ -15,11 +15,11 @@ abbrev pub is_name : ℕ → Bool
 is_name c = is_letter c || is_digit c || (c == 95)
 
 -- the characters of each class
-abbrev pub is_in : Class → ℕ → Bool
-is_in classes.Space c = is_space c
-is_in classes.Name c = is_name c
-is_in classes.Iri c = is_iri c
-is_in classes.Plain c = is_plain c
+abbrev pub is_of_class : Class → ℕ → Bool
+is_of_class classes.Space c = is_space c
+is_of_class classes.Name c = is_name c
+is_of_class classes.Iri c = is_iri c
+is_of_class classes.Plain c = is_plain c
 
 -- the UTF-8 of characters that are all of the class (Unicode, definition D92)
 pub record AreCharacters (p : ℕ → Bool) (bytes : List ℕ) : Type 0 where
@@ -31,12 +31,12 @@ pub record AreCharacters (p : ℕ → Bool) (bytes : List ℕ) : Type 0 where
 -- ---- terminals: the text begins with one, the longest there, and goes on with rest
 
 -- < characters >, with a scheme; as > is none of them, this is the longest (SPARQL 1.1 19.8, IRIREF)
-pub record IsIri (text iri rest : List ℕ) : Type 0 where
+pub record IsPatternIri (text iri rest : List ℕ) : Type 0 where
   pub spelled : text ≡ codes "<" ++ (iri ++ (codes ">" ++ rest))
   pub characters : AreCharacters is_iri iri
   pub scheme : has_scheme iri ≡ true
 
 -- " characters "; as " is none of them, this is the longest (SPARQL 1.1 19.8, STRING_LITERAL2, without escapes)
-pub record IsString (text lexical rest : List ℕ) : Type 0 where
+pub record IsPatternString (text lexical rest : List ℕ) : Type 0 where
   pub spelled : text ≡ codes "\"" ++ (lexical ++ (codes "\"" ++ rest))
   pub characters : AreCharacters is_plain lexical

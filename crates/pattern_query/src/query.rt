@@ -9,7 +9,7 @@ ghost use Rattle.term_core.specs.Mappings.{Name};
 ghost use Rattle.term_core.specs.Texts.{xsd_string};
 ghost use Rattle.sparql_tree.specs.Bgp.{is_variable};
 ghost use Rattle.term_core.specs.Patterns.{names_in, pattern_of};
-ghost use Rattle.pattern_query.specs.Query.{IsQuery, variables_at, variables_of, is_keyword};
+ghost use Rattle.pattern_query.specs.Query.{IsPatternQuery, variables_at, variables_of, is_keyword};
 ghost use Rattle.pattern_query.specs.QueryReading.{
   Reads,
   place_at,
@@ -72,7 +72,7 @@ fn is_keyword(keyword: &[u8], word: &Text) -> bool
 
 /// The place that a variable or an IRI spells.
 fn read_place(alloc: Global, token: &Token) -> Result<Place, QueryFault>
-    ensures { Reads (λ place. place) result (place_at token.now) }
+    ensures { ReadsAs (λ place. place) result (place_at token.now) }
 {
     match token {
         Token::Variable(name) => Ok(Place::Var(name.copy(alloc)?)),
@@ -83,7 +83,7 @@ fn read_place(alloc: Global, token: &Token) -> Result<Place, QueryFault>
 
 /// The place that a variable, an IRI or a string spells.
 fn read_object(alloc: Global, token: &Token) -> Result<Place, QueryFault>
-    ensures { Reads (λ place. place) result (object_at token.now) }
+    ensures { ReadsAs (λ place. place) result (object_place token.now) }
 {
     match token {
         Token::Quoted(lexical) => plain_literal(alloc, lexical),
@@ -101,7 +101,7 @@ fn plain_copy(alloc: Global, lexical: &Text) -> Result<Term, Memory>
 
 /// The literal of a string, which has the datatype xsd:string and no tag (SPARQL 1.1, section 4.1.2).
 fn plain_literal(alloc: Global, lexical: &Text) -> Result<Place, QueryFault>
-    ensures { Reads (λ place. place) result (Some (places.Term (terms.Literal lexical.now xsd_string []))) }
+    ensures { ReadsAs (λ place. place) result (Some (places.Term (terms.Literal lexical.now xsd_string []))) }
 {
     match plain_copy(alloc, lexical) {
         Ok(term) => Ok(Place::Term(term)),
@@ -119,7 +119,7 @@ fn is_end(tokens: &[Token]) -> bool
 /// The triple pattern in braces, up to the end (GroupGraphPattern).
 #[tactic(auto, unfolding(crate::specs::QueryReading::group_at))]
 fn read_group(alloc: Global, tokens: &[Token]) -> Result<Pattern, QueryFault>
-    ensures { Reads (λ pattern. pattern) result (group_at tokens.now) }
+    ensures { ReadsAs (λ pattern. pattern) result (group_at tokens.now) }
 {
     match tokens {
         [Token::Open, subject, predicate, object, end @ ..] => {
@@ -142,7 +142,7 @@ fn read_group(alloc: Global, tokens: &[Token]) -> Result<Pattern, QueryFault>
 /// The triple pattern behind WHERE or none, up to the end (WhereClause).
 #[tactic(auto, unfolding(crate::specs::QueryReading::body_at))]
 fn read_body(alloc: Global, tokens: &[Token]) -> Result<Pattern, QueryFault>
-    ensures { Reads (λ pattern. pattern) result (body_at tokens.now) }
+    ensures { ReadsAs (λ pattern. pattern) result (body_at tokens.now) }
 {
     match tokens {
         [Token::Word(word), rest @ ..] => {
@@ -195,7 +195,7 @@ fn read_variables(alloc: Global, tokens: &[Token]) -> Result<(Items<Text>, &[Tok
 /// What is selected, and the pattern, up to the end (SelectClause and WhereClause).
 #[tactic(auto, unfolding(crate::specs::QueryReading::selection_at))]
 fn read_selection(alloc: Global, tokens: &[Token]) -> Result<SelectQuery, QueryFault>
-    ensures { Reads (λ query. (query.names, query.pattern)) result (selection_at tokens.now) }
+    ensures { ReadsAs (λ query. (query.names, query.pattern)) result (selection_at tokens.now) }
 {
     match tokens {
         [Token::Star, rest @ ..] => {
@@ -217,7 +217,7 @@ fn read_selection(alloc: Global, tokens: &[Token]) -> Result<SelectQuery, QueryF
 /// The query that the tokens spell (SelectQuery).
 #[tactic(auto, unfolding(crate::specs::QueryReading::select_at))]
 fn read_select(alloc: Global, tokens: &[Token]) -> Result<SelectQuery, QueryFault>
-    ensures { Reads (λ query. (query.names, query.pattern)) result (select_at tokens.now) }
+    ensures { ReadsAs (λ query. (query.names, query.pattern)) result (select_at tokens.now) }
 {
     match tokens {
         [Token::Word(word), rest @ ..] => {
@@ -241,7 +241,7 @@ fn is_text(bytes: &[u8]) -> bool
 /// The query of a text, exactly as the reading has it.
 #[tactic(auto, unfolding(crate::specs::QueryReading::query_at))]
 fn read_exactly(alloc: Global, text: &[u8]) -> Result<SelectQuery, QueryFault>
-    ensures { Reads (λ query. (query.names, query.pattern)) result (query_at text.now) }
+    ensures { ReadsAs (λ query. (query.names, query.pattern)) result (query_at text.now) }
 {
     if !is_text(text) {
         return Err(QueryFault::Form);
@@ -258,8 +258,8 @@ fn read_exactly(alloc: Global, text: &[u8]) -> Result<SelectQuery, QueryFault>
 /// `QUERY_BYTES` bytes. The time is linear in the length of the text, but for the repeats among the
 /// variables, which are found by a tree.
 pub fn read_query(alloc: Global, text: &[u8]) -> Result<SelectQuery, QueryFault>
-    ensures found { IfOk result (λ query. IsQuery text.now query.names query.pattern) }
-    ensures form { result ≡ Err QueryFault.Form → (names : List Name) (pattern : Pattern) → IsQuery text.now names pattern → ⊥ }
+    ensures found { IfOk result (λ query. IsPatternQuery text.now query.names query.pattern) }
+    ensures form { result ≡ Err QueryFault.Form → (names : List Name) (pattern : Pattern) → IsPatternQuery text.now names pattern → ⊥ }
     ensures selected { IfOk result (λ query. (name : Name) → In query.names name → is_variable name ≡ true) }
     ensures variables { IfOk result (λ query. (name : Name) → In (names_in (pattern_of query.pattern)) name → is_variable name ≡ true) }
 {

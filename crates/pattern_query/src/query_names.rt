@@ -2,7 +2,7 @@
 
 ghost use Rattle.std.specs.Prelude.{◌≡◌, [], IfOk, OnOk};
 ghost use Rattle.pattern_query.specs.Query.{with_name, with_new};
-ghost use Rattle.pattern_query.specs.QueryReading.{HasNames};
+ghost use Rattle.sparql_tree.specs.NameSets.{HasNames};
 
 use std::alloc::Global;
 use std::collections::BTreeSet;

@@ -1,7 +1,7 @@
 //! The tokens of a query (SPARQL 1.1, section 19.8).
 
 ghost use Rattle.std.specs.Prelude.{◌≡◌};
-ghost use Rattle.pattern_query.specs.QueryReading.{Reads, token_at, variable_at, word_at, sign_of, tokens_of};
+ghost use Rattle.pattern_query.specs.QueryReading.{ReadsAs, token_at, variable_front, word_at, sign_token, tokens_of};
 
 use crate::QueryFault;
 use crate::terminals::{Class, is_in, read_iri, read_string, skip_spaces, span, text_of};
@@ -30,9 +30,9 @@ pub enum Token {
 }
 
 /// The variable behind its sign, and what is behind it.
-#[tactic(auto, unfolding(crate::specs::QueryReading::variable_at))]
+#[tactic(auto, unfolding(crate::specs::QueryReading::variable_front))]
 fn read_variable(alloc: Global, bytes: &[u8]) -> Result<(Token, &[u8]), QueryFault>
-    ensures { Reads (λ found. (found.0, found.1.now)) result (variable_at bytes.now) }
+    ensures { ReadsAs (λ found. (found.0, found.1.now)) result (variable_front bytes.now) }
 {
     match bytes {
         [] => Err(QueryFault::Form),
@@ -50,7 +50,7 @@ fn read_variable(alloc: Global, bytes: &[u8]) -> Result<(Token, &[u8]), QueryFau
 /// The word at the front of a text that begins with a letter, and what is behind it.
 #[tactic(auto, unfolding(crate::specs::QueryReading::word_at))]
 fn read_word(alloc: Global, bytes: &[u8]) -> Result<(Token, &[u8]), QueryFault>
-    ensures { Reads (λ found. (found.0, found.1.now)) result (word_at bytes.now) }
+    ensures { ReadsAs (λ found. (found.0, found.1.now)) result (word_at bytes.now) }
 {
     let (word, rest) = span(Class::Name, bytes);
     let word = text_of(alloc, word)?;
@@ -58,9 +58,9 @@ fn read_word(alloc: Global, bytes: &[u8]) -> Result<(Token, &[u8]), QueryFault>
 }
 
 /// The sign that a byte is, None where it is none.
-#[tactic(auto, unfolding(crate::specs::QueryReading::sign_of))]
+#[tactic(auto, unfolding(crate::specs::QueryReading::sign_token))]
 fn sign_of(byte: u8) -> Option<Token>
-    ensures { result ≡ sign_of byte }
+    ensures { result ≡ sign_token byte }
 {
     match byte {
         b'*' => Some(Token::Star),
@@ -75,7 +75,7 @@ fn sign_of(byte: u8) -> Option<Token>
 /// token stands there.
 #[tactic(auto, unfolding(crate::specs::QueryReading::token_at))]
 fn read_token(alloc: Global, bytes: &[u8]) -> Result<(Token, &[u8]), QueryFault>
-    ensures { Reads (λ found. (found.0, found.1.now)) result (token_at bytes.now) }
+    ensures { ReadsAs (λ found. (found.0, found.1.now)) result (token_at bytes.now) }
 {
     match bytes {
         [] => Err(QueryFault::Form),
@@ -102,7 +102,7 @@ fn read_token(alloc: Global, bytes: &[u8]) -> Result<(Token, &[u8]), QueryFault>
 
 /// The tokens of a text, in order. `Form` comes exactly where the text is not all tokens and spaces.
 pub fn read_tokens(alloc: Global, text: &[u8]) -> Result<Items<Token>, QueryFault>
-    ensures { Reads (λ tokens. tokens) result (tokens_of text.now) }
+    ensures { ReadsAs (λ tokens. tokens) result (tokens_of text.now) }
 {
     let mut tokens = Items::new(alloc);
     let mut left = skip_spaces(text);

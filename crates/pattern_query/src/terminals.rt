@@ -1,10 +1,10 @@
 //! Terminals of a query: classes of characters, and readers of an IRI and a string.
 
 ghost use Rattle.std.specs.Prelude.{◌≡◌, ◌≢◌, ◌≤◌, length};
-ghost use Rattle.pattern_query.specs.Terminals.{is_in};
+ghost use Rattle.pattern_query.specs.Terminals.{is_of_class};
 ghost use Rattle.term_core.specs.Tokens.{is_space};
 ghost use Rattle.term_core.specs.Characters.{front, after};
-ghost use Rattle.pattern_query.specs.QueryReading.{Reads, expect, text_at, iri_at, string_at};
+ghost use Rattle.pattern_query.specs.QueryReading.{ReadsAs, past_byte, text_at, iri_front, string_front};
 
 use crate::QueryFault;
 use std::alloc::Global;
@@ -27,7 +27,7 @@ pub enum Class {
 
 /// Whether a byte is of the class.
 pub fn is_in(class: Class, byte: u8) -> bool
-    ensures { result ≡ is_in class byte }
+    ensures { result ≡ is_of_class class byte }
 {
     match class {
         Class::Space => matches!(byte, b' ' | b'\t' | b'\r' | b'\n'),
@@ -45,8 +45,8 @@ pub fn is_in(class: Class, byte: u8) -> bool
 
 /// Cuts a text behind its longest front that is all of the class: that front, and the rest.
 pub fn span(class: Class, bytes: &[u8]) -> (&[u8], &[u8])
-    ensures front { result.0.now ≡ front (is_in class) bytes.now }
-    ensures after { result.1.now ≡ after (is_in class) bytes.now }
+    ensures front { result.0.now ≡ front (is_of_class class) bytes.now }
+    ensures after { result.1.now ≡ after (is_of_class class) bytes.now }
     ensures shorter { length result.1.now ≤ length bytes.now }
 {
     for (i, byte) in bytes.iter().enumerate() {
@@ -69,7 +69,7 @@ pub fn skip_spaces(bytes: &[u8]) -> &[u8]
 /// What is behind a byte that the text has to begin with. `Form` comes exactly where it begins
 /// otherwise; `Memory` never does.
 fn expect_byte(byte: u8, bytes: &[u8]) -> Result<&[u8], QueryFault>
-    ensures read { Reads (λ rest. rest.now) result (expect byte bytes.now) }
+    ensures read { ReadsAs (λ rest. rest.now) result (past_byte byte bytes.now) }
     ensures no_memory { result ≢ Err QueryFault.Memory }
 {
     match bytes {
@@ -82,7 +82,7 @@ fn expect_byte(byte: u8, bytes: &[u8]) -> Result<&[u8], QueryFault>
 /// section 4).
 #[tactic(auto, using(crate::proofs::Utf8::text_at_utf8, crate::proofs::Utf8::text_at_other))]
 pub fn text_of(alloc: Global, bytes: &[u8]) -> Result<Text, QueryFault>
-    ensures { Reads (λ text. text) result (text_at bytes.now) }
+    ensures { ReadsAs (λ text. text) result (text_at bytes.now) }
 {
     match Text::from_bytes(alloc, bytes) {
         Ok(text) => Ok(text),
@@ -93,9 +93,9 @@ pub fn text_of(alloc: Global, bytes: &[u8]) -> Result<Text, QueryFault>
 
 /// The IRI between `<` and `>` at the front of a text, and what is behind it (SPARQL 1.1, section
 /// 19.8, IRIREF, without escapes). `Form` comes exactly where no IRI stands there.
-#[tactic(auto, unfolding(crate::specs::QueryReading::iri_at))]
+#[tactic(auto, unfolding(crate::specs::QueryReading::iri_front))]
 pub fn read_iri(alloc: Global, bytes: &[u8]) -> Result<(Text, &[u8]), QueryFault>
-    ensures { Reads (λ found. (found.0, found.1.now)) result (iri_at bytes.now) }
+    ensures { ReadsAs (λ found. (found.0, found.1.now)) result (iri_front bytes.now) }
 {
     let body = expect_byte(b'<', bytes)?;
     let (characters, behind) = span(Class::Iri, body);
@@ -111,9 +111,9 @@ pub fn read_iri(alloc: Global, bytes: &[u8]) -> Result<(Text, &[u8]), QueryFault
 /// The characters of the string between quotes at the front of a text, and what is behind it
 /// (SPARQL 1.1, section 19.8, STRING_LITERAL2, without escapes). `Form` comes exactly where no
 /// string stands there.
-#[tactic(auto, unfolding(crate::specs::QueryReading::string_at))]
+#[tactic(auto, unfolding(crate::specs::QueryReading::string_front))]
 pub fn read_string(alloc: Global, bytes: &[u8]) -> Result<(Text, &[u8]), QueryFault>
-    ensures { Reads (λ found. (found.0, found.1.now)) result (string_at bytes.now) }
+    ensures { ReadsAs (λ found. (found.0, found.1.now)) result (string_front bytes.now) }
 {
     let body = expect_byte(b'"', bytes)?;
     let (characters, behind) = span(Class::Plain, body);

@@ -5,10 +5,10 @@ use Rattle.sage.specs.declared.refusal.Refusal.{Refusal}
 use Rattle.sage.specs.declared.refusal.Refusal.TheVariants as refusals
 use Rattle.sage.specs.declared.words.Command.TheVariants.{Build}
 use Rattle.sage.specs.World.{Io}
-use Rattle.sage.specs.Ending.{Ending, status_of, Names, TakesMemory}
-use Rattle.sage.specs.Told.{Tells, IsPrefixOf, IsUntouched}
+use Rattle.sage.specs.Ending.{Ending, status_of, NamesFile, TakesMemory}
+use Rattle.sage.specs.Told.{TellsFile, IsPrefixOf, IsUntouched}
 use Rattle.sage.specs.Files.{WhyNotRead}
-use Rattle.sage.specs.Data.{IsData, IsRefused, ReadsData}
+use Rattle.sage.specs.Data.{IsData, IsRefusedDocument, ReadsData}
 use Rattle.sage.specs.StoreFiles.{IsMade}
 use Rattle.sage.specs.Build.{IsMadeOf, WhyUnmade, HasBegun, IsUnwritten, Builds, BuildMust}
 use Rattle.sage.specs.Runs.{KeepsFiles, MayPutOut}
@@ -39,7 +39,7 @@ module _ (files : Option Files) (data_name read : List ℕ) (prefix : IsPrefixOf
   unmade (refusals.Data fault) before now h = record {
     document = prefix.file;
     reads = prefix.reads;
-    refused = refused_back prefix.file fault (subst (λ bytes. IsRefused bytes fault) prefix.is h);
+    refused = refused_back prefix.file fault (subst (λ bytes. IsRefusedDocument bytes fault) prefix.is h);
   }
   unmade refusals.Words before now h = absurd h
   unmade (refusals.File name) before now h = absurd h
@@ -61,7 +61,7 @@ module _ (data_name store_name : List ℕ) (before after : Io) where
   builds_refused refusals.Output same why = absurd why
 
   -- the store file was not written
-  pub builds_unwritten : (e : Refusal) → Names store_name e → IsUnwritten data_name store_name before after → Builds data_name store_name before after (Err e)
+  pub builds_unwritten : (e : Refusal) → NamesFile store_name e → IsUnwritten data_name store_name before after → Builds data_name store_name before after (Err e)
   builds_unwritten refusals.Memory named why = record { files = inr why.begun; out = why.out }
   builds_unwritten (refusals.File name) named why = inr (named, why)
   builds_unwritten refusals.Words named why = absurd named
@@ -70,7 +70,7 @@ module _ (data_name store_name : List ℕ) (before after : Io) where
   builds_unwritten refusals.Query named why = absurd named
   builds_unwritten refusals.Output named why = absurd named
 
-  same_data : (image lines document : List ℕ) (made : IsMadeOf before.files data_name image lines) → Tells before.files data_name document → IsData document made.made.triples
+  same_data : (image lines document : List ℕ) (made : IsMadeOf before.files data_name image lines) → TellsFile before.files data_name document → IsData document made.made.triples
   same_data image lines document made has =
       subst (λ bytes. IsData bytes made.made.triples) (one_read before.files data_name document made.document has made.reads) made.made.is_data
 
@@ -102,7 +102,7 @@ module _ (data_name store_name : List ℕ) (before after : Io) where
     no_file = λ lacks. absurd (reads_there before.files data_name h.0.document h.0.reads lacks);
     refuses_data = λ document has none still. inl refl;
     complete = λ document has triples is_data quiet.
-        absurd (refused_none document fault (subst (λ bytes. IsRefused bytes fault) (one_read before.files data_name document h.0.document has h.0.reads) h.0.refused) triples is_data);
+        absurd (refused_none document fault (subst (λ bytes. IsRefusedDocument bytes fault) (one_read before.files data_name document h.0.document has h.0.reads) h.0.refused) triples is_data);
   }
   build_must (Err refusals.Output) h =
       let made = h.built.made in

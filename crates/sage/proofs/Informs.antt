@@ -7,7 +7,7 @@ use Rattle.sage.specs.declared.refusal.Refusal.TheVariants as refusals
 use Rattle.sage.specs.declared.info_lines.HeaderFault.{HeaderFault}
 use Rattle.sage.specs.declared.info_lines.HeaderFault.TheVariants as faults
 use Rattle.sage.specs.World.{Io}
-use Rattle.sage.specs.Ending.{Ending, status_of, Names, TakesMemory}
+use Rattle.sage.specs.Ending.{Ending, status_of, NamesFile, TakesMemory}
 use Rattle.sage.specs.Told.{IsUntouched}
 use Rattle.sage.specs.Info.{OverFile, NoHeader, IsHeaderRefusal, WhyNoLines, Informs, InfoMust}
 use Rattle.sage.specs.Runs.{MayPutOut}
@@ -20,7 +20,7 @@ no_lines faults.Memory e store_name files before now is unread none = subst (λ 
 no_lines faults.NotAStore e store_name files before now is unread none = subst (λ r. WhyNoLines r store_name files before now) (sym is) (none refl)
 no_lines faults.Unread e store_name files before now is unread none = named e is
   where
-    named : (r : Refusal) → Names store_name r → WhyNoLines r store_name files before now
+    named : (r : Refusal) → NamesFile store_name r → WhyNoLines r store_name files before now
     named refusals.Memory n = tt
     named (refusals.File name) n = (n, unread refl)
     named refusals.Words n = absurd n

@@ -3,10 +3,10 @@ use Rattle.std.proofs.Common.{◌≡◌, ℕ, ◌+◌, zero, suc, zero-add, suc-
 use Rattle.std.proofs.lemmas.Grind.{common_steps}
 use Rattle.sage_outside.specs.declared.shelf.ShelfFault.{ShelfFault}
 use Rattle.sage_outside.specs.Shelf.{Files, Finds, FindsIn, FillsFrom}
-use Rattle.sage.specs.Told.{Tells}
+use Rattle.sage.specs.Told.{TellsFile}
 
 -- a call on a file whose contents are known speaks of its bytes
-pub finds_told : {T : Type 0} (P : List ℕ → T → Type 0) (files : Option Files) (name file : List ℕ) (r : Result T ShelfFault) → Tells files name file → FindsIn P files name r → Finds P (Some file) r
+pub finds_told : {T : Type 0} (P : List ℕ → T → Type 0) (files : Option Files) (name file : List ℕ) (r : Result T ShelfFault) → TellsFile files name file → FindsIn P files name r → Finds P (Some file) r
 finds_told P files name file r t h =
     let in_map : FindsIn P (Some t.all) name r = subst (λ fs. FindsIn P fs name r) t.told h in
     subst (λ bytes. Finds P bytes r) t.has in_map

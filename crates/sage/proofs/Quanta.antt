@@ -6,7 +6,7 @@ use Rattle.std.proofs.lemmas.Bool.{and_parts}
 use Rattle.std.proofs.lemmas.Bool.Decides.{nat_tests}
 use Rattle.std.proofs.lemmas.List.Elements.{All-nil, All-cons, All-from_get_or}
 use Rattle.std.proofs.lemmas.List.Splits.{slice_split_none, slice_split_at, length-slice_split}
-use Rattle.sage.specs.Words.{up_to_limit, value_on, quantum_of, pieces_of, is_quantum, are_quanta, AreWithinLimits}
+use Rattle.sage.specs.Words.{up_to_limit, value_on, quantum_of, pieces_of, is_quantum, are_quanta, AreAllowedQuanta}
 
 -- ---- commas
 
@@ -68,7 +68,7 @@ each_counts (piece ∷ pieces) h =
     ] parts.0
 
 -- a list of quanta is within its limits
-pub quanta_within : (word : List ℕ) → are_quanta word ≡ true → AreWithinLimits (filter_map quantum_of (pieces_of word))
+pub quanta_within : (word : List ℕ) → are_quanta word ≡ true → AreAllowedQuanta (filter_map quantum_of (pieces_of word))
 quanta_within word h =
     let pieces = pieces_of word in
     let parts = and_parts (list_all is_quantum pieces) (nat_le (length pieces) 64) h in

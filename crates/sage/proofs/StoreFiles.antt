@@ -21,7 +21,7 @@ use Rattle.sage.specs.declared.info_lines.HeaderFault.TheVariants as faults
 use Rattle.sage.specs.World.{SinkState}
 use Rattle.sage.specs.Ending.{HasGot, HasGotPrefix}
 use Rattle.sage.specs.Data.{IsData}
-use Rattle.sage.specs.InfoLines.{lines_of}
+use Rattle.sage.specs.InfoLines.{header_lines}
 use Rattle.sage.specs.StoreFiles.{IsWritten, IsWrittenInPart, IsMade, TellHeader, IsToldOf, IsToldInPart}
 use Rattle.triple_store.specs.declared.store.OpenFault.TheVariants as open_faults
 use Rattle.sage_outside.specs.Held.{device_of}
@@ -111,12 +111,12 @@ rose_before P a b c le h = let rose : Rose b c = h.0 in (omega (arith, le, rose)
 -- ---- what is made of a document
 
 -- the lines of bytes that are equal
-pub same_lines : (triples : List Triple) (a b lines : List ℕ) → a ≡ b → ((L : List Triple) (holds : Holds L a) → lines ≡ lines_of holds.header) → (holds : Holds triples b) → lines ≡ lines_of holds.header
-same_lines triples a b lines is tell holds = subst (λ x. (L : List Triple) (holds : Holds L x) → lines ≡ lines_of holds.header) is tell triples holds
+pub same_lines : (triples : List Triple) (a b lines : List ℕ) → a ≡ b → ((L : List Triple) (holds : Holds L a) → lines ≡ header_lines holds.header) → (holds : Holds triples b) → lines ≡ header_lines holds.header
+same_lines triples a b lines is tell holds = subst (λ x. (L : List Triple) (holds : Holds L x) → lines ≡ header_lines holds.header) is tell triples holds
 
 -- the lines that tell the header of an image's first block are those of the image
-pub lines_held : (triples : List Triple) (image lines : List ℕ) (count : ℕ) → TellHeader (block_at 0 image) count lines → (holds : Holds triples image) → lines ≡ lines_of holds.header
-lines_held triples image lines count told holds = told.tell ∙ ap lines_of (one_header (block_at 0 image) count holds.header.blocks told.header holds.header told.is_header holds.is_header)
+pub lines_held : (triples : List Triple) (image lines : List ℕ) (count : ℕ) → TellHeader (block_at 0 image) count lines → (holds : Holds triples image) → lines ≡ header_lines holds.header
+lines_held triples image lines count told holds = told.tell ∙ ap header_lines (one_header (block_at 0 image) count holds.header.blocks told.header holds.header told.is_header holds.is_header)
 
 -- what was made of the bytes that were read was made of the file
 pub made_back : (file read image lines : List ℕ) → read ≡ take 268435457 file → IsMade read image lines → IsMade file image lines

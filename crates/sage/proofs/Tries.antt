@@ -3,16 +3,16 @@ use Rattle.std.proofs.Common.{◌≡◌, ◌≤◌, ◌⊎◌, ℕ, List, [], �
 use Rattle.term_core.specs.declared.term.Triple.{Triple}
 use Rattle.sage_outside.specs.Causes.{Rose}
 use Rattle.sage_outside.specs.Shelf.{Files, Lacks}
-use Rattle.pattern_query.specs.Query.{IsQuery}
+use Rattle.pattern_query.specs.Query.{IsPatternQuery}
 use Rattle.sage.specs.declared.refusal.Refusal.{Refusal}
 use Rattle.sage.specs.declared.refusal.Refusal.TheVariants as refusals
 use Rattle.sage.specs.World.{Io}
 use Rattle.sage.specs.Ending.{Ending, status_of, TakesMemory}
-use Rattle.sage.specs.Told.{Tells, IsUntouched}
+use Rattle.sage.specs.Told.{TellsFile, IsUntouched}
 use Rattle.sage.specs.Files.{WhyNotRead}
-use Rattle.sage.specs.Data.{IsData, IsRefused}
+use Rattle.sage.specs.Data.{IsData, IsRefusedDocument}
 use Rattle.sage.specs.Answers.{Answers, Answered, NoQuery}
-use Rattle.sage.specs.Try.{AreRead, ArePrefixes, IsAnswerOf, WhyOneUnread, WhyUnanswered, Tries, TryMust}
+use Rattle.sage.specs.Try.{AreFilesRead, ArePrefixes, IsAnswerOf, WhyOneUnread, WhyUnanswered, Tries, TryMust}
 use Rattle.sage.specs.Runs.{MayPutOut}
 use Rattle.sage.proofs.Limits.{answers_back, refused_back, refused_none, some_data_back, no_query_back}
 use Rattle.sage.proofs.Files.{reads_there, one_read, unread_rose}
@@ -55,7 +55,7 @@ unread_unanswered refusals.Query data_name query_name files before now why = abs
 unread_unanswered refusals.Output data_name query_name files before now why = absurd why
 
 module _ (files : Option Files) (data_name query_name quanta document query : List ℕ) (prefixes : ArePrefixes files data_name query_name document query) where
-  are_read : AreRead files data_name query_name prefixes.document_read.file prefixes.query_read.file
+  are_read : AreFilesRead files data_name query_name prefixes.document_read.file prefixes.query_read.file
   are_read = record { document_reads = prefixes.document_read.reads; query_reads = prefixes.query_read.reads }
 
   -- an answer over what was read is one over the files
@@ -75,7 +75,7 @@ module _ (files : Option Files) (data_name query_name quanta document query : Li
     document = prefixes.document_read.file;
     query = prefixes.query_read.file;
     are_read = are_read;
-    refused = refused_back prefixes.document_read.file fault (subst (λ d. IsRefused d fault) prefixes.document_read.is h);
+    refused = refused_back prefixes.document_read.file fault (subst (λ d. IsRefusedDocument d fault) prefixes.document_read.is h);
   }
   unanswered refusals.Query before now h =
       let some = some_data_back prefixes.document_read.file (subst (λ d. (triples : List Triple) × IsData d triples) prefixes.document_read.is h.0) in
@@ -113,7 +113,7 @@ module _ (data_name query_name quanta : List ℕ) (before after : Io) where
   tries_refused refusals.NotAStore same why = absurd why
   tries_refused refusals.Output same why = absurd why
 
-  both_there : (document query : List ℕ) → AreRead before.files data_name query_name document query → Lacks before.files data_name ⊎ Lacks before.files query_name → ⊥
+  both_there : (document query : List ℕ) → AreFilesRead before.files data_name query_name document query → Lacks before.files data_name ⊎ Lacks before.files query_name → ⊥
   both_there document query are_read (inl lacks) = reads_there before.files data_name document are_read.document_reads lacks
   both_there document query are_read (inr lacks) = reads_there before.files query_name query are_read.query_reads lacks
 
@@ -127,7 +127,7 @@ module _ (data_name query_name quanta : List ℕ) (before after : Io) where
             absurd (none answers.triples (subst (λ bytes. IsData bytes answers.triples) (one_read before.files data_name document h.answer.document has_data h.answer.are_read.document_reads) answers.is_data));
         refuses_query = λ document query has_data has_query triples is_data none still.
             absurd (none answers.names answers.pattern
-            (subst (λ bytes. IsQuery bytes answers.names answers.pattern) (one_read before.files query_name query h.answer.query has_query h.answer.are_read.query_reads) answers.is_query));
+            (subst (λ bytes. IsPatternQuery bytes answers.names answers.pattern) (one_read before.files query_name query h.answer.query has_query h.answer.are_read.query_reads) answers.is_query));
         complete = λ document query has_data has_query triples is_data names pattern is_query quiet. inl refl;
       }
   try_must (Err refusals.Memory) h = record {
@@ -149,8 +149,8 @@ module _ (data_name query_name quanta : List ℕ) (before after : Io) where
     complete = λ document query has_data has_query triples is_data names pattern is_query quiet. absurd (quiet.files (unread_rose (data_name ∷ []) query_name query before after h.1 has_query));
   }
   try_must (Err (refusals.Data fault)) h =
-      let refused = λ (document : List ℕ) (has_data : Tells before.files data_name document).
-      subst (λ bytes. IsRefused bytes fault) (one_read before.files data_name document h.0.document has_data h.0.are_read.document_reads) h.0.refused in
+      let refused = λ (document : List ℕ) (has_data : TellsFile before.files data_name document).
+      subst (λ bytes. IsRefusedDocument bytes fault) (one_read before.files data_name document h.0.document has_data h.0.are_read.document_reads) h.0.refused in
       record {
         no_file = λ lacks. absurd (both_there h.0.document h.0.query h.0.are_read lacks);
         refuses_data = λ document query has_data has_query none still. inl refl;
@@ -173,7 +173,7 @@ module _ (data_name query_name quanta : List ℕ) (before after : Io) where
             absurd (none answers.triples (subst (λ bytes. IsData bytes answers.triples) (one_read before.files data_name document h.answer.document has_data h.answer.are_read.document_reads) answers.is_data));
         refuses_query = λ document query has_data has_query triples is_data none still.
             absurd (none answers.names answers.pattern
-            (subst (λ bytes. IsQuery bytes answers.names answers.pattern) (one_read before.files query_name query h.answer.query has_query h.answer.are_read.query_reads) answers.is_query));
+            (subst (λ bytes. IsPatternQuery bytes answers.names answers.pattern) (one_read before.files query_name query h.answer.query has_query h.answer.are_read.query_reads) answers.is_query));
         complete = λ document query has_data has_query triples is_data names pattern is_query quiet. absurd (quiet.out h.rose);
       }
   try_must (Err refusals.Words) h = absurd h

@@ -9,7 +9,7 @@ use Rattle.sparql_tree.specs.Answer.{IsAnswer}
 use Rattle.plan_tree.specs.Laws.{AreVariables}
 use Rattle.plan_tree.specs.Pages.{Page, IsRun, walked, rows_in}
 use Rattle.pattern_query.specs.declared.query.SelectQuery.{SelectQuery}
-use Rattle.pattern_query.specs.Query.{IsQuery}
+use Rattle.pattern_query.specs.Query.{IsPatternQuery}
 use Rattle.pattern_page.specs.Part.{select_all_text, part_plan}
 use Rattle.pattern_page.specs.Results.{tsv_of, counts_text}
 use Rattle.pattern_page.specs.declared.page.PageFault.{PageFault}
@@ -18,7 +18,7 @@ use Rattle.sage_outside.specs.declared.fault.StoreFault.TheVariants as store_fau
 use Rattle.sage.specs.declared.refusal.Refusal.{Refusal}
 use Rattle.sage.specs.declared.refusal.Refusal.TheVariants as refusals
 use Rattle.sage.specs.declared.answer.Answer.{Answer}
-use Rattle.sage.specs.Data.{IsData, IsRefused}
+use Rattle.sage.specs.Data.{IsData, IsRefusedDocument}
 
 -- The answer over triples, in pages under quanta that are walked round: what is written to the output and to standard error.
 pub record AnswersOver (triples : List Triple) (names : List Name) (pattern : Pattern) (quanta : List ℕ) (out err : List ℕ) : Type 0 where
@@ -38,16 +38,16 @@ pub record Answers (document query quanta out err : List ℕ) : Type 0 where
   pub is_data : IsData document triples
   pub names : List Name
   pub pattern : Pattern
-  pub is_query : IsQuery query names pattern
+  pub is_query : IsPatternQuery query names pattern
   pub over : AnswersOver triples names pattern quanta out err
 
 -- the bytes are no query
 abbrev pub NoQuery : List ℕ → Type 0
-NoQuery query = (names : List Name) (pattern : Pattern) → IsQuery query names pattern → ⊥
+NoQuery query = (names : List Name) (pattern : Pattern) → IsPatternQuery query names pattern → ⊥
 
 -- a query as it is read
 pub record Selects (query : List ℕ) (select : SelectQuery) : Type 0 where
-  pub is_query : IsQuery query select.names select.pattern
+  pub is_query : IsPatternQuery query select.names select.pattern
   pub variables : AreVariables select.names
 
 -- what the bytes of a query give: the query, or that it is none
@@ -61,7 +61,7 @@ ReadsQuery (Err refusal) query = ⊥
 abbrev pub Answered : Result Answer Refusal → List ℕ → List ℕ → List ℕ → Type 0
 Answered (Ok answer) document query quanta = Answers document query quanta answer.text.items (string_bytes answer.counts)
 Answered (Err refusals.Memory) document query quanta = Unit {0}
-Answered (Err (refusals.Data fault)) document query quanta = IsRefused document fault
+Answered (Err (refusals.Data fault)) document query quanta = IsRefusedDocument document fault
 Answered (Err refusals.Query) document query quanta = ((triples : List Triple) × IsData document triples) × NoQuery query
 Answered (Err refusal) document query quanta = ⊥
 

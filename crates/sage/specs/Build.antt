@@ -8,21 +8,21 @@ use Rattle.sage.specs.declared.refusal.Refusal.{Refusal}
 use Rattle.sage.specs.declared.refusal.Refusal.TheVariants as refusals
 use Rattle.sage.specs.World.{Io}
 use Rattle.sage.specs.Ending.{Ending, HasGot, HasGotPrefix}
-use Rattle.sage.specs.Told.{Tells, Reads, IsUntouched, IsUnread, IsQuiet}
-use Rattle.sage.specs.Data.{IsData, IsRefused, NoData}
+use Rattle.sage.specs.Told.{TellsFile, HasBytes, IsUntouched, IsFileUnread, IsQuiet}
+use Rattle.sage.specs.Data.{IsData, IsRefusedDocument, NoData}
 use Rattle.sage.specs.StoreFiles.{IsWritten, IsWrittenInPart, IsMade}
 
 -- the store file of the data of the file DATA, and the lines of its header
 pub record IsMadeOf (files : Option Files) (data_name image lines : List ℕ) : Type 0 where
   pub document : List ℕ
-  pub reads : Reads files data_name document
+  pub reads : HasBytes files data_name document
   pub made : IsMade document image lines
 
 -- the document is refused: this is the first cause
 pub record IsDocumentRefused (files : Option Files) (data_name : List ℕ) (fault : DataFault) : Type 0 where
   pub document : List ℕ
-  pub reads : Reads files data_name document
-  pub refused : IsRefused document fault
+  pub reads : HasBytes files data_name document
+  pub refused : IsRefusedDocument document fault
 
 -- why nothing was made of the file DATA
 abbrev pub WhyUnmade : Refusal → List ℕ → Option Files → ℕ → ℕ → Type 0
@@ -73,7 +73,7 @@ abbrev pub Builds : List ℕ → List ℕ → Io → Io → Ending → Type 0
 Builds data_name store_name before after (Ok told) = IsBuildDone data_name store_name before after × (told ≡ [])
 Builds data_name store_name before after (Err refusals.Memory) = MayHaveBegun data_name store_name before after
 Builds data_name store_name before after (Err (refusals.File name)) =
-    ((name ≡ data_name) × IsUnread [] data_name before after) ⊎ ((name ≡ store_name) × IsUnwritten data_name store_name before after)
+    ((name ≡ data_name) × IsFileUnread [] data_name before after) ⊎ ((name ≡ store_name) × IsUnwritten data_name store_name before after)
 Builds data_name store_name before after (Err (refusals.Data fault)) = IsDocumentRefused before.files data_name fault × IsUntouched before after
 Builds data_name store_name before after (Err refusals.Output) = IsBuildUntold data_name store_name before after
 Builds data_name store_name before after (Err refusals.Words) = ⊥
@@ -83,7 +83,7 @@ Builds data_name store_name before after (Err refusals.Query) = ⊥
 -- Where a status of `build` has to come, want of memory aside.
 pub record BuildMust (data_name : List ℕ) (before after : Io) (status : ℕ) : Type 0 where
   pub no_file : Lacks before.files data_name → (status ≡ 3) ⊎ (status ≡ 1)
-  pub refuses_data : (document : List ℕ) → Tells before.files data_name document → NoData document →
+  pub refuses_data : (document : List ℕ) → TellsFile before.files data_name document → NoData document →
       (Rose before.faults after.faults → ⊥) → (status ≡ 4) ⊎ (status ≡ 1)
-  pub complete : (document : List ℕ) → Tells before.files data_name document → (triples : List Triple) → IsData document triples →
+  pub complete : (document : List ℕ) → TellsFile before.files data_name document → (triples : List Triple) → IsData document triples →
       IsQuiet before after → (status ≡ 0) ⊎ (status ≡ 1)

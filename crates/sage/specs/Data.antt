@@ -16,7 +16,7 @@ pub record IsData (bytes : List ℕ) (triples : List Triple) : Type 0 where
   pub limits : IsWithinLimits bytes triples
 
 -- the bytes are none, and this is the first cause
-pub record IsRefused (bytes : List ℕ) (fault : DataFault) : Type 0 where
+pub record IsRefusedDocument (bytes : List ℕ) (fault : DataFault) : Type 0 where
   pub why : WhyRefused bytes fault
   pub named : fault ≢ data_faults.Memory
 
@@ -28,7 +28,7 @@ NoData bytes = (triples : List Triple) → IsData bytes triples → ⊥
 abbrev pub ReadsData : Result (List Triple) Refusal → List ℕ → Type 0
 ReadsData (Ok triples) bytes = IsData bytes triples
 ReadsData (Err refusals.Memory) bytes = Unit {0}
-ReadsData (Err (refusals.Data fault)) bytes = IsRefused bytes fault
+ReadsData (Err (refusals.Data fault)) bytes = IsRefusedDocument bytes fault
 ReadsData (Err refusal) bytes = ⊥
 
 -- the message that names the cause; places are counted in bytes from 0, lines from 1

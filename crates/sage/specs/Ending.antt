@@ -33,10 +33,10 @@ message_of (Err refusals.Query) = codes "sage: query form\n"
 message_of (Err refusals.Output) = codes "sage: output\n"
 
 -- the refusal names the file, or there was no memory for its name
-abbrev pub Names : List ℕ → Refusal → Type 0
-Names name refusals.Memory = Unit {0}
-Names name (refusals.File other) = other ≡ name
-Names name refusal = ⊥
+abbrev pub NamesFile : List ℕ → Refusal → Type 0
+NamesFile name refusals.Memory = Unit {0}
+NamesFile name (refusals.File other) = other ≡ name
+NamesFile name refusal = ⊥
 
 -- a sink whose bytes are known has got the text behind what it had
 abbrev pub HasGot : SinkState → SinkState → List ℕ → Type 0

@@ -9,18 +9,18 @@ use Rattle.sage.specs.declared.refusal.Refusal.TheVariants as refusals
 use Rattle.sage.specs.World.{Io}
 use Rattle.sage.specs.declared.info_lines.HeaderFault.{HeaderFault}
 use Rattle.sage.specs.declared.info_lines.HeaderFault.TheVariants as faults
-use Rattle.sage.specs.Ending.{Ending, Names}
-use Rattle.sage.specs.Told.{Tells, IsUntouched, IsUnread, IsQuiet}
+use Rattle.sage.specs.Ending.{Ending, NamesFile}
+use Rattle.sage.specs.Told.{TellsFile, IsUntouched, IsFileUnread, IsQuiet}
 use Rattle.sage.specs.StoreFiles.{HasHeader, TellHeader, IsToldOf, IsToldInPart}
 
 -- what holds of the file of a name, which is not lacking, where its contents are known
 pub record OverFile (files : Option Files) (name : List ℕ) (P : List ℕ → Type 0) : Type 0 where
   pub there : Lacks files name → ⊥
-  pub holds : (file : List ℕ) → Tells files name file → P file
+  pub holds : (file : List ℕ) → TellsFile files name file → P file
 
 -- the lines tell the header of the file
-abbrev pub AreLinesOf : List ℕ → List ℕ → Type 0
-AreLinesOf lines file = TellHeader (block_at 0 (image_of file)) (block_count (length file)) lines
+abbrev pub AreHeaderLines : List ℕ → List ℕ → Type 0
+AreHeaderLines lines file = TellHeader (block_at 0 (image_of file)) (block_count (length file)) lines
 
 -- the file has no header
 abbrev pub NoHeader : List ℕ → Type 0
@@ -37,7 +37,7 @@ WhyNoLines refusal store_name files before now = ⊥
 abbrev pub IsHeaderRefusal : HeaderFault → List ℕ → Refusal → Type 0
 IsHeaderRefusal faults.Memory store_name refusal = refusal ≡ refusals.Memory
 IsHeaderRefusal faults.NotAStore store_name refusal = refusal ≡ refusals.NotAStore
-IsHeaderRefusal faults.Unread store_name refusal = Names store_name refusal
+IsHeaderRefusal faults.Unread store_name refusal = NamesFile store_name refusal
 
 -- the lines of the file's header were put out
 pub record IsInfoDone (store_name : List ℕ) (before after : Io) : Type 0 where
@@ -54,7 +54,7 @@ pub record IsInfoUntold (store_name : List ℕ) (before after : Io) : Type 0 whe
 abbrev pub Informs : List ℕ → Io → Io → Ending → Type 0
 Informs store_name before after (Ok told) = IsInfoDone store_name before after × (told ≡ [])
 Informs store_name before after (Err refusals.Memory) = IsUntouched before after
-Informs store_name before after (Err (refusals.File name)) = (name ≡ store_name) × IsUnread [] store_name before after
+Informs store_name before after (Err (refusals.File name)) = (name ≡ store_name) × IsFileUnread [] store_name before after
 Informs store_name before after (Err refusals.NotAStore) = OverFile before.files store_name NoHeader × IsUntouched before after
 Informs store_name before after (Err refusals.Output) = IsInfoUntold store_name before after
 Informs store_name before after (Err refusals.Words) = ⊥
@@ -64,7 +64,7 @@ Informs store_name before after (Err refusals.Query) = ⊥
 -- Where a status of `info` has to come, want of memory aside.
 pub record InfoMust (store_name : List ℕ) (before after : Io) (status : ℕ) : Type 0 where
   pub no_file : Lacks before.files store_name → (status ≡ 3) ⊎ (status ≡ 1)
-  pub refuses_store : (file : List ℕ) → Tells before.files store_name file → NoHeader file →
+  pub refuses_store : (file : List ℕ) → TellsFile before.files store_name file → NoHeader file →
       (Rose before.faults after.faults → ⊥) → (status ≡ 5) ⊎ (status ≡ 1)
-  pub complete : (file : List ℕ) → Tells before.files store_name file → (header : Header) → HasHeader file header →
+  pub complete : (file : List ℕ) → TellsFile before.files store_name file → (header : Header) → HasHeader file header →
       IsQuiet before after → (status ≡ 0) ⊎ (status ≡ 1)

@@ -22,5 +22,5 @@ number_lines h =
     ++ (codes "\nblocks " ++ (decimal h.blocks ++ codes "\n")))))))
 
 -- the six lines: the format, the numbers, and the name of the data in hexadecimal digits
-unfoldable pub lines_of : Header → List ℕ
-lines_of h = number_lines h ++ (codes "data " ++ (hex_of h.data_id ++ 10 ∷ []))
+unfoldable pub header_lines : Header → List ℕ
+header_lines h = number_lines h ++ (codes "data " ++ (hex_of h.data_id ++ 10 ∷ []))

@@ -11,7 +11,7 @@ use Rattle.store_image.specs.Holds.{Holds}
 use Rattle.sage.specs.Data.{IsData}
 use Rattle.sage.specs.World.{SinkState}
 use Rattle.sage.specs.Ending.{HasGot, HasGotPrefix}
-use Rattle.sage.specs.InfoLines.{lines_of}
+use Rattle.sage.specs.InfoLines.{header_lines}
 
 -- known files have these bytes at the name, and else what they had
 abbrev pub IsWritten : Option Files → Option Files → List ℕ → List ℕ → Type 0
@@ -26,7 +26,7 @@ IsWrittenInPart before after name bytes = (after ≡ before) ⊎ ((n : ℕ) × I
 pub record IsStoreFile (triples : List Triple) (image lines : List ℕ) : Type 0 where
   pub is_image : IsImage triples image
   pub holds : Holds triples image
-  pub tell : lines ≡ lines_of holds.header
+  pub tell : lines ≡ header_lines holds.header
 
 -- the bytes are the store file of a document's data, and the lines tell its header
 pub record IsMade (document image lines : List ℕ) : Type 0 where
@@ -42,17 +42,17 @@ HasHeader file h = IsHeader (block_at 0 (image_of file)) (block_count (length fi
 pub record TellHeader (block : List ℕ) (count : ℕ) (lines : List ℕ) : Type 0 where
   pub header : Header
   pub is_header : IsHeader block count header
-  pub tell : lines ≡ lines_of header
+  pub tell : lines ≡ header_lines header
 
 -- the lines of the header of a file were put out; where the file holds data, it is the header of their store file
 pub record IsToldOf (file : List ℕ) (before after : SinkState) : Type 0 where
   pub header : Header
   pub is_header : HasHeader file header
   pub of_data : (triples : List Triple) (holds : Holds triples (image_of file)) → header ≡ holds.header
-  pub got : HasGot before after (lines_of header)
+  pub got : HasGot before after (header_lines header)
 
 -- a prefix of the lines of the header of a file was put out
 pub record IsToldInPart (file : List ℕ) (before after : SinkState) : Type 0 where
   pub header : Header
   pub is_header : HasHeader file header
-  pub prefix : HasGotPrefix before after (lines_of header)
+  pub prefix : HasGotPrefix before after (header_lines header)

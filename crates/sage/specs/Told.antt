@@ -7,20 +7,20 @@ use Rattle.sage_outside.specs.Shelf.{Files, Lacks}
 use Rattle.sage.specs.World.{Io}
 
 -- the contents are known, and the file of that name has these bytes
-pub record Tells (files : Option Files) (name file : List ℕ) : Type 0 where
+pub record TellsFile (files : Option Files) (name file : List ℕ) : Type 0 where
   pub all : Files
   pub told : files ≡ Some all
   pub has : map.get all name ≡ Some file
 
 -- the file of that name has these bytes, where the contents are known
-abbrev pub Reads : Option Files → List ℕ → List ℕ → Type 0
-Reads None name file = Unit {0}
-Reads (Some files) name file = map.get files name ≡ Some file
+abbrev pub HasBytes : Option Files → List ℕ → List ℕ → Type 0
+HasBytes None name file = Unit {0}
+HasBytes (Some files) name file = map.get files name ≡ Some file
 
 -- what was read of a file is its bytes, or so many of them as are read at most
 pub record IsPrefixOf (files : Option Files) (name : List ℕ) (most : ℕ) (read : List ℕ) : Type 0 where
   pub file : List ℕ
-  pub reads : Reads files name file
+  pub reads : HasBytes files name file
   pub is : read ≡ take most file
 
 -- files and output are as they were
@@ -29,7 +29,7 @@ pub record IsUntouched (before after : Io) : Type 0 where
   pub out : after.out.written ≡ before.out.written
 
 -- The file was not read, and none of the earlier ones is lacking: files are read in the order of the words.
-pub record IsUnread (earlier : List (List ℕ)) (name : List ℕ) (before after : Io) : Type 0 where
+pub record IsFileUnread (earlier : List (List ℕ)) (name : List ℕ) (before after : Io) : Type 0 where
   pub there : (other : List ℕ) → In earlier other → Lacks before.files other → ⊥
   pub cause : Lacks before.files name ⊎ Rose before.faults after.faults
   pub untouched : IsUntouched before after

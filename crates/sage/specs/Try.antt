@@ -6,19 +6,19 @@ use Rattle.term_core.specs.Mappings.{Name}
 use Rattle.nt_text.specs.declared.fault.DataFault.{DataFault}
 use Rattle.sage_outside.specs.Causes.{Rose}
 use Rattle.sage_outside.specs.Shelf.{Files, Lacks}
-use Rattle.pattern_query.specs.Query.{IsQuery}
+use Rattle.pattern_query.specs.Query.{IsPatternQuery}
 use Rattle.sage.specs.declared.refusal.Refusal.{Refusal}
 use Rattle.sage.specs.declared.refusal.Refusal.TheVariants as refusals
 use Rattle.sage.specs.World.{Io}
 use Rattle.sage.specs.Ending.{Ending, HasGot, HasGotPrefix}
-use Rattle.sage.specs.Told.{Tells, Reads, IsPrefixOf, IsUntouched, IsUnread, IsQuiet}
-use Rattle.sage.specs.Data.{IsData, IsRefused, NoData}
+use Rattle.sage.specs.Told.{TellsFile, HasBytes, IsPrefixOf, IsUntouched, IsFileUnread, IsQuiet}
+use Rattle.sage.specs.Data.{IsData, IsRefusedDocument, NoData}
 use Rattle.sage.specs.Answers.{Answers, NoQuery}
 
 -- the bytes of both files
-pub record AreRead (files : Option Files) (data_name query_name document query : List ℕ) : Type 0 where
-  pub document_reads : Reads files data_name document
-  pub query_reads : Reads files query_name query
+pub record AreFilesRead (files : Option Files) (data_name query_name document query : List ℕ) : Type 0 where
+  pub document_reads : HasBytes files data_name document
+  pub query_reads : HasBytes files query_name query
 
 -- what is read of both files, each up to one byte past its limit
 pub record ArePrefixes (files : Option Files) (data_name query_name document query : List ℕ) : Type 0 where
@@ -29,21 +29,21 @@ pub record ArePrefixes (files : Option Files) (data_name query_name document que
 pub record IsAnswerOf (files : Option Files) (data_name query_name quanta text counts : List ℕ) : Type 0 where
   pub document : List ℕ
   pub query : List ℕ
-  pub are_read : AreRead files data_name query_name document query
+  pub are_read : AreFilesRead files data_name query_name document query
   pub answers : Answers document query quanta text counts
 
 -- the document is refused: this is the first cause
 pub record IsDataRefused (files : Option Files) (data_name query_name : List ℕ) (fault : DataFault) : Type 0 where
   pub document : List ℕ
   pub query : List ℕ
-  pub are_read : AreRead files data_name query_name document query
-  pub refused : IsRefused document fault
+  pub are_read : AreFilesRead files data_name query_name document query
+  pub refused : IsRefusedDocument document fault
 
 -- the document is good, and the query is refused
 pub record IsQueryRefused (files : Option Files) (data_name query_name : List ℕ) : Type 0 where
   pub document : List ℕ
   pub query : List ℕ
-  pub are_read : AreRead files data_name query_name document query
+  pub are_read : AreFilesRead files data_name query_name document query
   pub triples : List Triple
   pub is_data : IsData document triples
   pub refused : NoQuery query
@@ -83,7 +83,7 @@ abbrev pub Tries : List ℕ → List ℕ → List ℕ → Io → Io → Ending �
 Tries data_name query_name quanta before after (Ok counts) = IsAnswered data_name query_name quanta before after counts
 Tries data_name query_name quanta before after (Err refusals.Memory) = IsUntouched before after
 Tries data_name query_name quanta before after (Err (refusals.File name)) =
-    ((name ≡ data_name) × IsUnread [] data_name before after) ⊎ ((name ≡ query_name) × IsUnread (data_name ∷ []) query_name before after)
+    ((name ≡ data_name) × IsFileUnread [] data_name before after) ⊎ ((name ≡ query_name) × IsFileUnread (data_name ∷ []) query_name before after)
 Tries data_name query_name quanta before after (Err (refusals.Data fault)) = IsDataRefused before.files data_name query_name fault × IsUntouched before after
 Tries data_name query_name quanta before after (Err refusals.Query) = IsQueryRefused before.files data_name query_name × IsUntouched before after
 Tries data_name query_name quanta before after (Err refusals.Output) = IsAnsweredInPart data_name query_name quanta before after
@@ -93,10 +93,10 @@ Tries data_name query_name quanta before after (Err refusals.NotAStore) = ⊥
 -- Where a status of `try` has to come, want of memory aside.
 pub record TryMust (data_name query_name : List ℕ) (before after : Io) (status : ℕ) : Type 0 where
   pub no_file : Lacks before.files data_name ⊎ Lacks before.files query_name → (status ≡ 3) ⊎ (status ≡ 1)
-  pub refuses_data : (document query : List ℕ) → Tells before.files data_name document → Tells before.files query_name query →
+  pub refuses_data : (document query : List ℕ) → TellsFile before.files data_name document → TellsFile before.files query_name query →
       NoData document → (Rose before.faults after.faults → ⊥) → (status ≡ 4) ⊎ (status ≡ 1)
-  pub refuses_query : (document query : List ℕ) → Tells before.files data_name document → Tells before.files query_name query →
+  pub refuses_query : (document query : List ℕ) → TellsFile before.files data_name document → TellsFile before.files query_name query →
       (triples : List Triple) → IsData document triples → NoQuery query → (Rose before.faults after.faults → ⊥) → (status ≡ 6) ⊎ (status ≡ 1)
-  pub complete : (document query : List ℕ) → Tells before.files data_name document → Tells before.files query_name query →
-      (triples : List Triple) → IsData document triples → (names : List Name) (pattern : Pattern) → IsQuery query names pattern →
+  pub complete : (document query : List ℕ) → TellsFile before.files data_name document → TellsFile before.files query_name query →
+      (triples : List Triple) → IsData document triples → (names : List Name) (pattern : Pattern) → IsPatternQuery query names pattern →
       IsQuiet before after → (status ≡ 0) ⊎ (status ≡ 1)

@@ -3,6 +3,7 @@ use Rattle.std.specs.Prelude.{◌≡◌, ℕ, ◌+◌, ◌-◌, ◌*◌, ◌≤�
 use Rattle.std.specs.List.{slice_split, list_all, filter_map}
 use Rattle.std.specs.Str.{bytes_eq}
 use Rattle.term_core.specs.Characters.{is_digit}
+use Rattle.term_core.specs.Numbers.{is_empty}
 use Rattle.plan_tree.specs.Pages.{AreQuanta}
 use Rattle.sage.specs.declared.words.Command.{Command}
 use Rattle.sage.specs.declared.words.Command.TheVariants.{Try, Build, Info}
@@ -14,6 +15,7 @@ abbrev pub value_on : ℕ → List ℕ → Option ℕ
 value_on n [] = Some n
 value_on n (b ∷ bs) = if is_digit b && nat_le n 1000 then value_on (10 * n + (b - 48)) bs else None
 
+-- a number from 1 to 10,000
 abbrev pub up_to_limit : Option ℕ → Option ℕ
 up_to_limit None = None
 up_to_limit (Some n) = if nat_le 1 n && nat_le n 10000 then Some n else None
@@ -32,6 +34,7 @@ abbrev pub pieces_left : Option (List ℕ) → List (List ℕ)
 pieces_left None = []
 pieces_left (Some rest) = pieces_of rest
 
+-- whether a piece is a quantum
 abbrev pub is_quantum : List ℕ → Bool
 is_quantum piece = is_some (quantum_of piece)
 
@@ -42,9 +45,6 @@ are_quanta word = list_all is_quantum (pieces_of word) && nat_le (length (pieces
 -- the quanta of such a list, in their order
 abbrev pub quanta_of : List ℕ → Option (List ℕ)
 quanta_of word = if are_quanta word then Some (filter_map quantum_of (pieces_of word)) else None
-
-abbrev pub is_empty : List ℕ → Bool
-is_empty word = length word == 0
 
 -- `try` with the quanta that its option gives, if it gives some
 abbrev pub try_with : List ℕ → List ℕ → Option (List ℕ) → Option Command
@@ -86,13 +86,13 @@ Spells (Err faults.Words) spelled = spelled ≡ None
 Spells (Err faults.Memory) spelled = IsSome spelled
 
 -- from 1 to 64 quanta, each from 1 to 10,000
-pub record AreWithinLimits (quanta : List ℕ) : Type 0 where
+pub record AreAllowedQuanta (quanta : List ℕ) : Type 0 where
   pub are : AreQuanta quanta
   pub few : length quanta ≤ 64
   pub short : All (λ quantum. quantum ≤ 10000) quanta
 
 -- the quanta of a command are within their limits
 abbrev pub HasQuanta : Command → Type 0
-HasQuanta (Try document query quanta) = AreWithinLimits quanta
+HasQuanta (Try document query quanta) = AreAllowedQuanta quanta
 HasQuanta (Build document store) = Unit {0}
 HasQuanta (Info store) = Unit {0}

@@ -9,7 +9,7 @@ ghost use Rattle.sage_outside.specs.Shelf.{Files};
 ghost use Rattle.store_image.specs.Holds.{Holds};
 ghost use Rattle.sage.specs.World.{io};
 ghost use Rattle.sage.specs.Data.{ReadsData};
-ghost use Rattle.sage.specs.InfoLines.{lines_of};
+ghost use Rattle.sage.specs.InfoLines.{header_lines};
 ghost use Rattle.sage.specs.StoreFiles.{IsWritten, IsWrittenInPart, IsStoreFile, IsMade};
 ghost use Rattle.sage.specs.Build.{IsMadeOf, WhyUnmade, Builds};
 
@@ -46,7 +46,7 @@ fn want_of(fault: HeaderFault) -> Memory
 /// The lines of the header of a store file in memory.
 fn image_lines(alloc: Global, image: &[u8]) -> Result<Vec<u8>, Memory>
     requires held { (L : List Triples) × Holds L image.now }
-    ensures { (L : List Triples) (holds : Holds L image.now) → IfOk result (λ lines. lines.items ≡ lines_of holds.header) }
+    ensures { (L : List Triples) (holds : Holds L image.now) → IfOk result (λ lines. lines.items ≡ header_lines holds.header) }
 {
     let (lines, _blocks) = header_lines(alloc, NeverBlocks::new(image));
     match lines {

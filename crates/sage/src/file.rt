@@ -1,7 +1,7 @@
 // Reading a file, up to a limit.
 ghost use Rattle.std.specs.Prelude.{◌≡◌, ◌≤◌, ◌<◌, ◌+◌, ◌^◌, ℕ, List, length, take, OnOk, IfErr, IfOk};
 ghost use Rattle.sage_outside.specs.Shelf.{Lacks};
-ghost use Rattle.sage.specs.Told.{Tells, IsPrefixOf};
+ghost use Rattle.sage.specs.Told.{TellsFile, IsPrefixOf};
 ghost use Rattle.sage.specs.Files.{WhyUnread, WhyNotRead};
 
 use crate::refusal::{Refusal, file_refusal};
@@ -44,9 +44,9 @@ fn read_piece<S: Shelf>(
     ensures later { S.faults shelf.old ≤ S.faults shelf.new }
     ensures longer { IfOk result (λ n. length bytes.new.items ≡ length bytes.old.items + n) }
     ensures room { IfOk result (λ n. n ≤ length buffer.old) }
-    ensures prefix { (file : List ℕ) → Tells (S.files shelf.old) name.now file → bytes.old.items ≡ take (length bytes.old.items) file
+    ensures prefix { (file : List ℕ) → TellsFile (S.files shelf.old) name.now file → bytes.old.items ≡ take (length bytes.old.items) file
         → OnOk result (bytes.new.items ≡ take (length bytes.new.items) file) }
-    ensures end { (file : List ℕ) → Tells (S.files shelf.old) name.now file → result ≡ Ok 0 → length file ≤ length bytes.old.items }
+    ensures end { (file : List ℕ) → TellsFile (S.files shelf.old) name.now file → result ≡ Ok 0 → length file ≤ length bytes.old.items }
     ensures why { IfErr result (λ e. WhyUnread e (S.files shelf.old) name.now (S.faults shelf.old) (S.faults shelf.new)) }
 {
     match shelf.read_at(name, bytes.len() as u64, buffer) {
@@ -70,7 +70,7 @@ fn read_rest<S: Shelf>(
     requires fits { length bytes.old.items ≤ wanted }
     ensures same { S.files shelf.new ≡ S.files shelf.old }
     ensures later { S.faults shelf.old ≤ S.faults shelf.new }
-    ensures whole { (file : List ℕ) → Tells (S.files shelf.old) name.now file → bytes.old.items ≡ take (length bytes.old.items) file
+    ensures whole { (file : List ℕ) → TellsFile (S.files shelf.old) name.now file → bytes.old.items ≡ take (length bytes.old.items) file
         → OnOk result (bytes.new.items ≡ take wanted file) }
     ensures most { OnOk result (length bytes.new.items ≤ wanted) }
     ensures why { IfErr result (λ e. WhyUnread e (S.files shelf.old) name.now (S.faults shelf.old) (S.faults shelf.new)) }
@@ -101,7 +101,7 @@ fn read_prefix<S: Shelf>(
 ) -> Result<Vec<u8>, FileFault>
     ensures same { S.files shelf.new ≡ S.files shelf.old }
     ensures later { S.faults shelf.old ≤ S.faults shelf.new }
-    ensures whole { (file : List ℕ) → Tells (S.files shelf.old) name.now file → IfOk result (λ bytes. bytes.items ≡ take wanted file) }
+    ensures whole { (file : List ℕ) → TellsFile (S.files shelf.old) name.now file → IfOk result (λ bytes. bytes.items ≡ take wanted file) }
     ensures most { IfOk result (λ bytes. length bytes.items ≤ wanted) }
     ensures why { IfErr result (λ e. WhyUnread e (S.files shelf.old) name.now (S.faults shelf.old) (S.faults shelf.new)) }
 {
@@ -122,7 +122,7 @@ fn read_file<S: Shelf>(
     requires { limit < 2 ^ 62 }
     ensures same { S.files shelf.new ≡ S.files shelf.old }
     ensures later { S.faults shelf.old ≤ S.faults shelf.new }
-    ensures whole { (file : List ℕ) → Tells (S.files shelf.old) name.now file → IfOk result (λ bytes. bytes.items ≡ take (limit + 1) file) }
+    ensures whole { (file : List ℕ) → TellsFile (S.files shelf.old) name.now file → IfOk result (λ bytes. bytes.items ≡ take (limit + 1) file) }
     ensures most { IfOk result (λ bytes. length bytes.items ≤ limit + 1) }
     ensures there { Lacks (S.files shelf.old) name.now → IfOk result (λ bytes. ⊥) }
     ensures why { IfErr result (λ e. WhyUnread e (S.files shelf.old) name.now (S.faults shelf.old) (S.faults shelf.new)) }

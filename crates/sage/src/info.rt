@@ -3,10 +3,10 @@ ghost use Rattle.std.specs.Prelude.{◌≡◌, ◌≤◌, ◌⊎◌, ℕ, List, 
 ghost use Rattle.sage_outside.specs.Causes.{Rose};
 ghost use Rattle.sage_outside.specs.Shelf.{Lacks};
 ghost use Rattle.store_image.specs.declared.header.Header.{Header as Headers};
-ghost use Rattle.sage.specs.Told.{Tells};
+ghost use Rattle.sage.specs.Told.{TellsFile};
 ghost use Rattle.sage.specs.StoreFiles.{HasHeader};
 ghost use Rattle.sage.specs.World.{io};
-ghost use Rattle.sage.specs.Info.{OverFile, AreLinesOf, NoHeader, IsHeaderRefusal, WhyNoLines, Informs};
+ghost use Rattle.sage.specs.Info.{OverFile, AreHeaderLines, NoHeader, IsHeaderRefusal, WhyNoLines, Informs};
 
 use crate::ending::nothing;
 use crate::info_lines::{HeaderFault, header_lines};
@@ -29,9 +29,9 @@ fn header_refusal(alloc: Global, fault: HeaderFault, name: &Text) -> Refusal
 /// The lines of the header of a store file. The file is closed whatever came.
 fn opened_lines<S: Shelf>(alloc: Global, shelf: &mut S, name: &str) -> Result<Vec<u8>, HeaderFault>
     ensures same { S.files shelf.new ≡ S.files shelf.old }
-    ensures told { (file : List ℕ) → Tells (S.files shelf.old) name.now file
-        → IfOk result (λ lines. AreLinesOf lines.items file) }
-    ensures not_a_store { (file : List ℕ) → Tells (S.files shelf.old) name.now file
+    ensures told { (file : List ℕ) → TellsFile (S.files shelf.old) name.now file
+        → IfOk result (λ lines. AreHeaderLines lines.items file) }
+    ensures not_a_store { (file : List ℕ) → TellsFile (S.files shelf.old) name.now file
         → result ≡ Err HeaderFault.NotAStore → (h : Headers) → HasHeader file h → ⊥ }
     ensures failed { result ≡ Err HeaderFault.Unread → Lacks (S.files shelf.old) name.now ⊎ Rose (S.faults shelf.old) (S.faults shelf.new) }
     ensures there { Lacks (S.files shelf.old) name.now → result ≡ Err HeaderFault.Unread }
@@ -49,7 +49,7 @@ fn opened_lines<S: Shelf>(alloc: Global, shelf: &mut S, name: &str) -> Result<Ve
 /// The lines of the header of the file STORE.
 fn file_lines<S: Shelf>(alloc: Global, shelf: &mut S, store: &Text) -> Result<Vec<u8>, Refusal>
     ensures same { S.files shelf.new ≡ S.files shelf.old }
-    ensures lines { IfOk result (λ lines. OverFile (S.files shelf.old) store.now (AreLinesOf lines.items)) }
+    ensures lines { IfOk result (λ lines. OverFile (S.files shelf.old) store.now (AreHeaderLines lines.items)) }
     ensures why { IfErr result (λ e. WhyNoLines e store.now (S.files shelf.old) (S.faults shelf.old) (S.faults shelf.new)) }
 {
     match opened_lines(alloc, shelf, store.as_str()) {

@@ -4,7 +4,7 @@ ghost use Rattle.sage_outside.specs.Causes.{Rose};
 ghost use Rattle.sage_outside.specs.Blocks.{HasRead, Tells as TellsBytes, block_at};
 ghost use Rattle.store_image.specs.declared.header.Header.{Header as Headers};
 ghost use Rattle.store_image.specs.Header.{IsHeader};
-ghost use Rattle.sage.specs.InfoLines.{hex_digit, hex_byte, hex_of, number_lines, lines_of};
+ghost use Rattle.sage.specs.InfoLines.{hex_digit, hex_byte, hex_of, number_lines, header_lines};
 ghost use Rattle.sage.specs.StoreFiles.{TellHeader};
 
 use sage_outside::Blocks;
@@ -66,9 +66,9 @@ fn number_lines<B: Blocks>(alloc: Global, store: &Store<B>) -> Result<String, Me
 }
 
 /// The six lines that tell what the header of a store has. Nothing is read.
-#[tactic(auto, unfolding(crate::specs::InfoLines::lines_of))]
+#[tactic(auto, unfolding(crate::specs::InfoLines::header_lines))]
 fn store_lines<B: Blocks>(alloc: Global, store: &Store<B>) -> Result<Vec<u8>, Memory>
-    ensures { IfOk result (λ lines. lines.items ≡ lines_of store.now.header) }
+    ensures { IfOk result (λ lines. lines.items ≡ header_lines store.now.header) }
 {
     let numbers = number_lines(alloc, store)?;
     let mut lines = Vec::from_slice(alloc, numbers.as_bytes())?;

@@ -1,5 +1,5 @@
 // Why a command does not do its work.
-ghost use Rattle.sage.specs.Ending.{Names};
+ghost use Rattle.sage.specs.Ending.{NamesFile};
 
 use nt_text::DataFault;
 use std::alloc::Global;
@@ -27,7 +27,7 @@ pub enum Refusal {
 
 /// The refusal that names a file, or want of memory for its name.
 pub(crate) fn file_refusal(alloc: Global, name: &Text) -> Refusal
-    ensures { Names name.now result }
+    ensures { NamesFile name.now result }
 {
     match name.copy(alloc) {
         Ok(name) => Refusal::File { name },

@@ -2,7 +2,7 @@
 ghost use Rattle.std.specs.Prelude.{◌≡◌, ◌<◌, [], ◌∷◌, length, Some, IfOk, IfSome, option_map};
 ghost use Rattle.std.specs.List.{filter_map};
 ghost use Rattle.term_core.specs.Characters.{is_digit};
-ghost use Rattle.sage.specs.Words.{value_on, quantum_of, pieces_of, pieces_left, are_quanta, quanta_of, quanta_from, try_of, build_of, info_of, command_of, Spells, AreWithinLimits, HasQuanta};
+ghost use Rattle.sage.specs.Words.{value_on, quantum_of, pieces_of, pieces_left, are_quanta, quanta_of, quanta_from, try_of, build_of, info_of, command_of, Spells, AreAllowedQuanta, HasQuanta};
 
 use std::alloc::Global;
 use term_core::{Items, Memory, Text};
@@ -145,7 +145,7 @@ fn default_quanta(alloc: Global) -> Result<Items<u32>, Memory>
 /// The quanta of a list. The list is tried before memory is taken for it.
 fn list_of(alloc: Global, word: &str) -> Result<Items<u32>, WordsFault>
     ensures exact { Spells result (quanta_of word.now) }
-    ensures range { IfOk result AreWithinLimits }
+    ensures range { IfOk result AreAllowedQuanta }
 {
     if are_quanta(word) {
         Ok(read_quanta(alloc, word)?)
@@ -156,7 +156,7 @@ fn list_of(alloc: Global, word: &str) -> Result<Items<u32>, WordsFault>
 
 fn quanta_among(alloc: Global, options: &[Text]) -> Result<Items<u32>, WordsFault>
     ensures exact { Spells result (quanta_from options.now) }
-    ensures range { IfOk result AreWithinLimits }
+    ensures range { IfOk result AreAllowedQuanta }
 {
     match options {
         [] => Ok(default_quanta(alloc)?),
@@ -177,7 +177,7 @@ fn make_try(
     query: &Text,
     quanta: Items<u32>,
 ) -> Result<Command, WordsFault>
-    requires { AreWithinLimits quanta }
+    requires { AreAllowedQuanta quanta }
     ensures exact { Spells result (Some (Command.Try document.now query.now quanta)) }
     ensures range { IfOk result HasQuanta }
 {

@@ -15,7 +15,7 @@ use Rattle.std.proofs.lemmas.Slice.Eq.{bytes_eq-Decides}
 use Rattle.sage_outside.specs.declared.memory.MemFile.{MemFile}
 use Rattle.sage_outside.specs.declared.shelf.ShelfFault.TheVariants.{Failed}
 use Rattle.sage_outside.specs.Shelf.{Files, Finds}
-use Rattle.sage_outside.specs.Memory.{files_of, has_name, IsPlace}
+use Rattle.sage_outside.specs.Memory.{files_of, is_named, IsPlace}
 
 -- what a map has after an insertion, by the test of the names' bytes
 get_after : (m : Files) (k v q : List ℕ) → get (insert m k v) q ≡ cond (bytes_eq q k) (Some v) (get m q)
@@ -40,9 +40,9 @@ false_is_true e = cc
 module _ (name : List ℕ) where
   -- no file before this place has the name
   abbrev pub NoneBefore : List MemFile → ℕ → MemFile → Type 0
-  NoneBefore fs i d = (k : ℕ) → k < i → has_name name (get_or fs k d) ≡ false
+  NoneBefore fs i d = (k : ℕ) → k < i → is_named name (get_or fs k d) ≡ false
 
-  pub get_first : (fs : List MemFile) (i : ℕ) (d : MemFile) → i < length fs → NoneBefore fs i d → has_name name (get_or fs i d) ≡ true → get (files_of fs) name ≡ Some (get_or fs i d).bytes.items
+  pub get_first : (fs : List MemFile) (i : ℕ) (d : MemFile) → i < length fs → NoneBefore fs i d → is_named name (get_or fs i d) ≡ true → get (files_of fs) name ≡ Some (get_or fs i d).bytes.items
   get_first [] i d within before is = absurd (omega (arith, within))
   get_first (f ∷ fs) zero d within before is =
       get_after (files_of fs) (string_bytes f.name) f.bytes.items name ∙ ap (λ b. cond b (Some f.bytes.items) (get (files_of fs) name)) is
@@ -59,7 +59,7 @@ module _ (name : List ℕ) where
       ∙ get_nowhere fs d (λ k lt. before (suc k) (omega (arith, lt)))
 
   -- a file of the name in the place of the first one counts at that name alone
-  pub get_replaced : (fs : List MemFile) (i : ℕ) (d g : MemFile) (q : List ℕ) → i < length fs → NoneBefore fs i d → has_name name (get_or fs i d) ≡ true → string_bytes g.name ≡ name
+  pub get_replaced : (fs : List MemFile) (i : ℕ) (d g : MemFile) (q : List ℕ) → i < length fs → NoneBefore fs i d → is_named name (get_or fs i d) ≡ true → string_bytes g.name ≡ name
       → get (files_of (set fs i g)) q ≡ cond (bytes_eq q name) (Some g.bytes.items) (get (files_of fs) q)
   get_replaced [] i d g q within before is named = absurd (omega (arith, within))
   get_replaced (f ∷ fs) zero d g q within before is named =
@@ -89,7 +89,7 @@ module _ (name : List ℕ) where
   there_where e = let P : Option (List ℕ) → Type 0 = λ o. IsSome o in subst P (sym e) refl
 
   -- the place that the search gives is that of the first file of the name
-  module _ (fs : List MemFile) (i : ℕ) (d : MemFile) (within : i < length fs) (before : NoneBefore fs i d) (is : has_name name (get_or fs i d) ≡ true) where
+  module _ (fs : List MemFile) (i : ℕ) (d : MemFile) (within : i < length fs) (before : NoneBefore fs i d) (is : is_named name (get_or fs i d) ≡ true) where
     first_of_name : IsPlace fs name i
     first_of_name = record {
       within = within;
@@ -105,25 +105,25 @@ module _ (name : List ℕ) where
           (λ q. get_replaced fs i d g q within before is named ∙ unchanged_at (files_of fs) g.bytes.items q (bytes_eq q name) has (bytes_eq-Decides q name).0);
     }
 
-  pub is_place : (fs : List MemFile) (i : ℕ) → position (has_name name) fs ≡ Some i → IsPlace fs name i
+  pub is_place : (fs : List MemFile) (i : ℕ) → position (is_named name) fs ≡ Some i → IsPlace fs name i
   is_place [] i e = absurd (none-some i e)
   is_place (f ∷ fs) i e =
-      let at : (i < length (f ∷ fs)) × (has_name name (get_or (f ∷ fs) i f) ≡ true) × NoneBefore (f ∷ fs) i f = position-Some (has_name name) (f ∷ fs) i f e in
+      let at : (i < length (f ∷ fs)) × (is_named name (get_or (f ∷ fs) i f) ≡ true) × NoneBefore (f ∷ fs) i f = position-Some (is_named name) (f ∷ fs) i f e in
       first_of_name (f ∷ fs) i f at.0 at.2 at.1
 
   past : (b : Bool) (n : ℕ) → cond b (Some n) None ≡ None → b ≡ false
   past true n e = absurd (none-some n (sym e))
   past false n e = refl
 
-  pub no_place : (fs : List MemFile) → position (has_name name) fs ≡ None → get (files_of fs) name ≡ None
+  pub no_place : (fs : List MemFile) → position (is_named name) fs ≡ None → get (files_of fs) name ≡ None
   no_place [] e = get-empty (slice_cmp nat_cmp) name
   no_place (f ∷ fs) e =
-      let n : ℕ = position_or_len (has_name name) (f ∷ fs) in
+      let n : ℕ = position_or_len (is_named name) (f ∷ fs) in
       let all : length (f ∷ fs) ≤ n = ltb-false n (length (f ∷ fs)) (past _ n e) in
-      get_nowhere (f ∷ fs) f (λ k lt. fails_before_first (has_name name) (f ∷ fs) k f (omega (arith, lt, all)))
+      get_nowhere (f ∷ fs) f (λ k lt. fails_before_first (is_named name) (f ∷ fs) k f (omega (arith, lt, all)))
 
 -- what the search for a name answers, as the map of the files has it
-pub nowhere_or_place : (name : List ℕ) (fs : List MemFile) (r : Option ℕ) → r ≡ position (has_name name) fs → IfNone r (get (files_of fs) name ≡ None) × IfSome r (λ i. IsPlace fs name i)
+pub nowhere_or_place : (name : List ℕ) (fs : List MemFile) (r : Option ℕ) → r ≡ position (is_named name) fs → IfNone r (get (files_of fs) name ≡ None) × IfSome r (λ i. IsPlace fs name i)
 nowhere_or_place name fs None e = (no_place name fs (sym e), tt)
 nowhere_or_place name fs (Some i) e = (tt, is_place name fs i (sym e))
 

@@ -21,7 +21,7 @@ pub record HasRead (before now : Device) (n : ℕ) : Type 0 where
   pub cost : now.reads ≤ before.reads + n
 
 -- no call failed yet, and no read was counted
-pub record IsUnread (device : Device) : Type 0 where
+pub record IsFreshDevice (device : Device) : Type 0 where
   pub faults : device.faults ≡ 0
   pub reads : device.reads ≡ 0
 

@@ -11,8 +11,8 @@ files_of [] = map.empty
 files_of (file ∷ files) = map.insert (files_of files) (string_bytes file.name) file.bytes.items
 
 -- the file has that name
-abbrev pub has_name : List ℕ → MemFile → Bool
-has_name name file = bytes_eq name (string_bytes file.name)
+abbrev pub is_named : List ℕ → MemFile → Bool
+is_named name file = bytes_eq name (string_bytes file.name)
 
 -- the first file of that name stands there, so that another in its place is what the name has then
 pub record IsPlace (files : List MemFile) (name : List ℕ) (i : ℕ) : Type 0 where

@@ -70,13 +70,13 @@ impl<'a> MemBlocks<'a> {
     ghost use Rattle.std.specs.Prelude.{Some};
     ghost use Rattle.sage_outside.specs.Calls.{calls_with};
     ghost use Rattle.sage_outside.specs.Held.{blocks_calls};
-    ghost use Rattle.sage_outside.specs.Blocks.{IsUnread};
+    ghost use Rattle.sage_outside.specs.Blocks.{IsFreshDevice};
 
     /// The bytes with zeros behind them to the end of a block. The reads with the numbers of
     /// `fails`, counted from 0, are to fail.
     pub fn new(image: &'a [u8], fails: Vec<u64>) -> MemBlocks<'a>
         ensures image { (⟦<MemBlocks<'a> as Blocks>⟧.device result).image ≡ Some (image_of image.now) }
-        ensures unread { IsUnread (⟦<MemBlocks<'a> as Blocks>⟧.device result) }
+        ensures unread { IsFreshDevice (⟦<MemBlocks<'a> as Blocks>⟧.device result) }
         ensures calls { blocks_calls result ≡ calls_with fails }
     {
         MemBlocks {
@@ -146,12 +146,12 @@ pub struct NeverBlocks<'a> {
 
 impl<'a> NeverBlocks<'a> {
     ghost use Rattle.std.specs.Prelude.{Some};
-    ghost use Rattle.sage_outside.specs.Blocks.{IsUnread};
+    ghost use Rattle.sage_outside.specs.Blocks.{IsFreshDevice};
 
     /// The bytes with zeros behind them to the end of a block.
     pub fn new(image: &'a [u8]) -> NeverBlocks<'a>
         ensures image { (⟦<NeverBlocks<'a> as Blocks>⟧.device result).image ≡ Some (image_of image.now) }
-        ensures unread { IsUnread (⟦<NeverBlocks<'a> as Blocks>⟧.device result) }
+        ensures unread { IsFreshDevice (⟦<NeverBlocks<'a> as Blocks>⟧.device result) }
     {
         NeverBlocks {
             bytes: image,
@@ -202,7 +202,7 @@ impl MemStored {
     ghost use Rattle.std.specs.Prelude.{Some};
     ghost use Rattle.sage_outside.specs.Calls.{IsNumberedOn};
     ghost use Rattle.sage_outside.specs.Held.{stored_calls};
-    ghost use Rattle.sage_outside.specs.Blocks.{IsUnread};
+    ghost use Rattle.sage_outside.specs.Blocks.{IsFreshDevice};
 
     /// A copy of the bytes, whose calls are numbered on from these.
     pub(crate) fn copy_of(
@@ -211,7 +211,7 @@ impl MemStored {
         bytes: &[u8],
     ) -> Result<MemStored, AllocError>
         ensures image { IfOk result (λ file. (⟦<MemStored as Blocks>⟧.device file).image ≡ Some (image_of bytes.now)) }
-        ensures unread { IfOk result (λ file. IsUnread (⟦<MemStored as Blocks>⟧.device file)) }
+        ensures unread { IfOk result (λ file. IsFreshDevice (⟦<MemStored as Blocks>⟧.device file)) }
         ensures calls { IfOk result (λ file. IsNumberedOn calls.now (stored_calls file)) }
     {
         Ok(MemStored {

@@ -1,7 +1,7 @@
 // The adapter over an open file of std, read by blocks. It tells nothing of content.
 ghost use Rattle.std.specs.Prelude.{◌≡◌, ◌<◌, ◌*◌, OnErr, nat_lt, length};
 ghost use Rattle.sage_outside.specs.Causes.{Rose, counted};
-ghost use Rattle.sage_outside.specs.Blocks.{IsUnread, HasRead, HasBlock, block_count};
+ghost use Rattle.sage_outside.specs.Blocks.{IsFreshDevice, HasRead, HasBlock, block_count};
 
 use crate::blocks_in_memory::block_count;
 use crate::{Blocks, Failed};
@@ -21,7 +21,7 @@ pub struct FileBlocks<F> {
 impl<F: Read + Seek> FileBlocks<F> {
     /// The file, which has that size in bytes.
     pub(crate) fn new(file: F, size: u64) -> FileBlocks<F>
-        ensures unread { IsUnread (⟦<FileBlocks<F> as Blocks>⟧.device result) }
+        ensures unread { IsFreshDevice (⟦<FileBlocks<F> as Blocks>⟧.device result) }
         ensures count { (⟦<FileBlocks<F> as Blocks>⟧.device result).count ≡ block_count size }
     {
         FileBlocks {

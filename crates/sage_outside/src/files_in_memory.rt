@@ -3,7 +3,7 @@ ghost use Rattle.std.specs.Prelude.{◌≡◌, ◌<◌, ◌++◌, [], List, ℕ,
 ghost use Rattle.std.specs.List.{position};
 ghost use Rattle.std.specs.Option.{option_copied};
 ghost use Rattle.std.specs.FinMap as map;
-ghost use Rattle.sage_outside.specs.Memory.{files_of, has_name, IsPlace};
+ghost use Rattle.sage_outside.specs.Memory.{files_of, is_named, IsPlace};
 ghost use Rattle.sage_outside.specs.Shelf.{FillsFrom};
 
 use crate::MemFile;
@@ -11,7 +11,7 @@ use std::alloc::{AllocError, Global};
 
 /// The place of the first file of that name, by the names' bytes.
 fn position_of(files: &[MemFile], name: &str) -> Option<usize>
-    ensures { result ≡ position (has_name name.now) files.now }
+    ensures { result ≡ position (is_named name.now) files.now }
 {
     files.iter().position(|file| name == file.name.as_str())
 }

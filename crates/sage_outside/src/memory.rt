@@ -129,7 +129,7 @@ impl MemShelf {
 impl Shelf for MemShelf {
     ghost use Rattle.std.specs.Prelude.{Some};
     ghost use Rattle.sage_outside.specs.Causes.{Rose};
-    ghost use Rattle.sage_outside.specs.Blocks.{IsUnread, image_of};
+    ghost use Rattle.sage_outside.specs.Blocks.{IsFreshDevice, image_of};
     ghost use Rattle.sage_outside.specs.Calls.{FailsByList, FailsByListOrRoom, IsNumberedOn, ClosesAfter};
     ghost use Rattle.sage_outside.specs.Held.{shelf_files, shelf_calls, shelf_faults, stored_device, stored_calls};
 
@@ -224,7 +224,7 @@ impl Shelf for MemShelf {
     fn open(&mut self, name: &str) -> Result<MemStored, ShelfFault>
         ensures cause { HasCause (Some (shelf_files self.old)) name.now
             (shelf_faults self.old) (shelf_faults self.new) result }
-        ensures unread { IfOk result (λ file. IsUnread (stored_device file)) }
+        ensures unread { IfOk result (λ file. IsFreshDevice (stored_device file)) }
         ensures found { FindsIn (λ bytes file. (stored_device file).image ≡ Some (image_of bytes))
             (Some (shelf_files self.old)) name.now result }
         ensures same { shelf_files self.new ≡ shelf_files self.old }

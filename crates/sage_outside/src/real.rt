@@ -2,7 +2,7 @@
 ghost use Rattle.std.specs.Prelude.{◌≡◌, ◌≤◌, None, IsErr, IfOk};
 ghost use Rattle.std.specs.Io.{ReadsAtMost};
 ghost use Rattle.sage_outside.specs.Causes.{Rose};
-ghost use Rattle.sage_outside.specs.Blocks.{IsUnread};
+ghost use Rattle.sage_outside.specs.Blocks.{IsFreshDevice};
 
 use crate::{Blocks, Failed, FileBlocks, Shelf, ShelfFault, Sink};
 use std::alloc::Global;
@@ -91,7 +91,7 @@ impl<R: Files + Drop> FileShelf<R> {
     }
 
     fn blocks_of(&self, name: &str) -> io::Result<FileBlocks<R::File>>
-        ensures unread { IfOk result (λ file. IsUnread (⟦<FileBlocks<R::File> as Blocks>⟧.device file)) }
+        ensures unread { IfOk result (λ file. IsFreshDevice (⟦<FileBlocks<R::File> as Blocks>⟧.device file)) }
     {
         let file = fs::open(&self.rt, name)?;
         let size = file.metadata()?.len();

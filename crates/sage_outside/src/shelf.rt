@@ -2,7 +2,7 @@
 ghost use Rattle.std.specs.Prelude.{◌≡◌, ◌<◌, ◌≤◌, ℕ, Option, Some, IfOk, length};
 ghost use Rattle.std.specs.Io.{ReadsAtMost};
 ghost use Rattle.sage_outside.specs.Causes.{Rose};
-ghost use Rattle.sage_outside.specs.Blocks.{IsUnread, image_of};
+ghost use Rattle.sage_outside.specs.Blocks.{IsFreshDevice, image_of};
 ghost use Rattle.sage_outside.specs.Shelf.{Files, HasCause, FindsIn, FillsFrom, Started, Grown};
 
 use crate::Blocks;
@@ -66,7 +66,7 @@ pub trait Shelf {
     /// yet, and no read was counted. `Missing` and `Failed` come as in `size`.
     fn open(&mut self, name: &str) -> Result<Self::File, ShelfFault>
         ensures cause { HasCause (files self.old) name.now (faults self.old) (faults self.new) result }
-        ensures unread { IfOk result (λ file. IsUnread (Self.File.device file)) }
+        ensures unread { IfOk result (λ file. IsFreshDevice (Self.File.device file)) }
         ensures found { FindsIn (λ bytes file. (Self.File.device file).image ≡ Some (image_of bytes))
             (files self.old) name.now result }
         ensures same { files self.new ≡ files self.old };

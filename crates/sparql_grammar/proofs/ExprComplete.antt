@@ -10,7 +10,7 @@ use Rattle.sparql_tree.specs.declared.words.Function.TheVariants as functions
 use Rattle.sparql_tree.specs.declared.symbol.Shape.{Shape}
 use Rattle.sparql_tree.specs.declared.symbol.Shape.TheVariants as s
 use Rattle.sparql_tree.specs.declared.symbol.Symbol.{Symbol}
-use Rattle.sparql_tree.specs.Heads.{Is, Holds}
+use Rattle.sparql_tree.specs.Heads.{Is, IsHead}
 use Rattle.sparql_grammar.specs.Parser.{Parser, ◌>>=◌, ◌>>◌, ◌<<◌, ◌<$>◌, peek, take, more, all_more, close_paren}
 use Rattle.sparql_tree.specs.Heads.{head}
 use Rattle.sparql_tree.specs.Terms.{IsNumber, IsTerm}
@@ -37,8 +37,8 @@ pub expr-not_distinct : (o : Option Shape) → begins_expr o ≡ true → not_di
 expr-not_distinct (Some s.Distinct) h = absurd cc
 expr-not_distinct o h = refl
 
-pub distinct-finds : {ts us : List Symbol} {once : Bool} → IsDistinct ts once us → not_distinct_at (head us) ≡ true → Finds l.distinct ts once us
-unfolding l.distinct
+pub distinct-finds : {ts us : List Symbol} {once : Bool} → IsDistinct ts once us → not_distinct_at (head us) ≡ true → Finds l.distinct_or_all ts once us
+unfolding l.distinct_or_all
 distinct-finds (distinct i) h = at-finds l.distinct_by (is-head i) (take-finds {q = λ w. Some (true, w)} i (record { found = refl }))
 distinct-finds (not_distinct {ts}) h = record { found = by (head ts) h }
   where
@@ -46,7 +46,7 @@ distinct-finds (not_distinct {ts}) h = record { found = by (head ts) h }
     by (Some s.Distinct) e = absurd cc
     by o e = refl
 
-pub bound-finds : {us vs ws rest : List Symbol} {word : List ℕ} → Is s.Open us vs → Holds s.Var word vs ws → Is s.Close ws rest → Finds l.bound us (Call functions.Bound (exprs (Var word ∷ []))) rest
+pub bound-finds : {us vs ws rest : List Symbol} {word : List ℕ} → Is s.Open us vs → IsHead s.Var word vs ws → Is s.Close ws rest → Finds l.bound us (Call functions.Bound (exprs (Var word ∷ []))) rest
 unfolding l.bound
 bound-finds i h j = then-finds _ (open-finds i) (then-finds _ (name-finds h) (then-finds _ (close-finds j) (record { found = refl })))
 
@@ -113,7 +113,7 @@ module _ (p : Bool → Parser Expr) (b : Bool) where
   unfolding l.call
   call_bound-finds h = record { found = h.found }
 
-  pub count_all-finds : {us vs ws xs rest : List Symbol} {once : Bool} → Is s.Open us vs → Finds l.distinct vs once ws → Is s.Star ws xs → Is s.Close xs rest
+  pub count_all-finds : {us vs ws xs rest : List Symbol} {once : Bool} → Is s.Open us vs → Finds l.distinct_or_all vs once ws → Is s.Star ws xs → Is s.Close xs rest
       → Finds (l.aggregate p b kinds.Count) us (AggregateAll kinds.Count once) rest
   unfolding l.aggregate
   count_all-finds {once = once} i d k m = then-finds _ (open-finds i) (then-finds _ d (closed-finds (at-finds (l.counted p b kinds.Count once) (is-head k) (take-finds {q = λ w. Some (AggregateAll kinds.Count once, w)} k (record { found = refl }))) m))
@@ -122,7 +122,7 @@ module _ (p : Bool → Parser Expr) (b : Bool) where
   counted-expr kind once us (Some s.Star) e = absurd cc
   counted-expr kind once us o e = refl
 
-  pub aggregate-finds : {us vs ws xs rest : List Symbol} {kind : AggregateKind} {once : Bool} {a : Expr} → Is s.Open us vs → Finds l.distinct vs once ws → begins_expr (head ws) ≡ true → Finds (p false) ws a xs
+  pub aggregate-finds : {us vs ws xs rest : List Symbol} {kind : AggregateKind} {once : Bool} {a : Expr} → Is s.Open us vs → Finds l.distinct_or_all vs once ws → begins_expr (head ws) ≡ true → Finds (p false) ws a xs
       → Is s.Close xs rest → Finds (l.aggregate p b kind) us (Aggregate kind once a) rest
   unfolding l.aggregate
   aggregate-finds {ws = ws} {xs = xs} {kind = kind} {once = once} {a = a} i d e h m =
@@ -139,7 +139,7 @@ module _ (p : Bool → Parser Expr) (b : Bool) where
   unfolding l.atom
   constant-finds {ts = ts} e h = record { found = atom_by-term ts (head ts) e ∙ (map-finds Const h).found }
 
-  variable-finds : {ts rest : List Symbol} {word : List ℕ} → Holds s.Var word ts rest → Finds (l.atom p b) ts (Var word) rest
+  variable-finds : {ts rest : List Symbol} {word : List ℕ} → IsHead s.Var word ts rest → Finds (l.atom p b) ts (Var word) rest
   unfolding l.atom
   variable-finds h = at-finds (l.atom_by p b) (holds-head h) (spelled-finds Var h)
 

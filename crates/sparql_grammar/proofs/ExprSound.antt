@@ -9,7 +9,7 @@ use Rattle.sparql_tree.specs.declared.words.Function.TheVariants as functions
 use Rattle.sparql_tree.specs.declared.symbol.Shape.{Shape}
 use Rattle.sparql_tree.specs.declared.symbol.Shape.TheVariants as s
 use Rattle.sparql_tree.specs.declared.symbol.Symbol.{Symbol}
-use Rattle.sparql_tree.specs.Heads.{Is, Holds}
+use Rattle.sparql_tree.specs.Heads.{Is, IsHead}
 use Rattle.sparql_grammar.specs.Parser.{Parser, next, ◌>>=◌, ◌<<◌, peek, open_paren, close_paren, name}
 use Rattle.sparql_tree.specs.Heads.{head}
 use Rattle.sparql_tree.specs.Terms.{IsNumber, IsTerm}
@@ -24,8 +24,8 @@ distinct_by-sound : (ts : List Symbol) (o : Option Shape) → head ts ≡ o → 
 distinct_by-sound ts (Some s.Distinct) h = distinct (is-next s.Distinct ts h)
 distinct_by-sound ts o h = not_distinct
 
-pub distinct-sound : (ts : List Symbol) → Good (IsDistinct ts) (l.distinct ts)
-unfolding l.distinct
+pub distinct-sound : (ts : List Symbol) → Good (IsDistinct ts) (l.distinct_or_all ts)
+unfolding l.distinct_or_all
 distinct-sound ts = distinct_by-sound ts (head ts) refl
 
 in_by-sound : (ts : List Symbol) (o : Option Shape) → head ts ≡ o → Good (λ (x : Unit {0}) us. Is s.In ts us) (l.in_by o ts)
@@ -45,7 +45,7 @@ closed-sound P Q q ts h k = then_good P Q (q ts) _ h (λ a us m.
 pub bound-sound : (b : Bool) (ts us : List Symbol) → Is (s.Function functions.Bound) ts us → Good (IsCall b ts) (l.bound us)
 unfolding l.bound
 bound-sound b ts us i = then_good (λ (x : Unit {0}) vs. Is s.Open us vs) (IsCall b ts) (open_paren us) _ (open-sound us) (λ x vs j.
-    then_good (λ word ws. Holds s.Var word vs ws) (IsCall b ts) (name vs) _ (name-sound vs) (λ word ws k.
+    then_good (λ word ws. IsHead s.Var word vs ws) (IsCall b ts) (name vs) _ (name-sound vs) (λ word ws k.
     then_good (λ (y : Unit {0}) rest. Is s.Close ws rest) (IsCall b ts) (close_paren ws) _ (close-sound ws) (λ y rest m. bound i j k m)))
 
 module _ (expr : Bool → Parser Expr) (nested : (b : Bool) (ts : List Symbol) → Good (IsExpr b ts) (expr b ts)) (b : Bool) where
@@ -102,7 +102,7 @@ module _ (expr : Bool → Parser Expr) (nested : (b : Bool) (ts : List Symbol) �
   pub aggregate-sound : (kind : AggregateKind) (ts us : List Symbol) → Is (s.Aggregate kind) ts us → Good (IsAggregate ts) (l.aggregate expr b kind us)
   unfolding l.aggregate
   aggregate-sound kind ts us i = then_good (λ (x : Unit {0}) vs. Is s.Open us vs) (IsAggregate ts) (open_paren us) _ (open-sound us) (λ x vs j.
-      then_good (IsDistinct vs) (IsAggregate ts) (l.distinct vs) _ (distinct-sound vs) (λ once ws d.
+      then_good (IsDistinct vs) (IsAggregate ts) (l.distinct_or_all vs) _ (distinct-sound vs) (λ once ws d.
       closed-sound (λ a rest. (last : List Symbol) → Is s.Close rest last → IsAggregate ts a last) (IsAggregate ts) (peek >>= l.counted expr b kind once) ws
       (counted-sound kind once ts us vs ws (head ws) refl i j d) (λ a vs2 rest k m. k rest m)))
 

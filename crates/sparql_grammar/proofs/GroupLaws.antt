@@ -8,7 +8,7 @@ use Rattle.sparql_tree.specs.declared.words.Function.{Function}
 use Rattle.sparql_tree.specs.declared.symbol.Shape.{Shape}
 use Rattle.sparql_tree.specs.declared.symbol.Shape.TheVariants as s
 use Rattle.sparql_tree.specs.declared.symbol.Symbol.{Symbol}
-use Rattle.sparql_tree.specs.Heads.{Is, Holds}
+use Rattle.sparql_tree.specs.Heads.{Is, IsHead}
 use Rattle.sparql_grammar.specs.Parser.{Parser, next, ◌>>=◌, ◌>>◌, ◌<$>◌, pure, take, more, all_more, repeat, all_steps, open_paren, close_paren, open_brace, close_brace, as_word, name}
 use Rattle.sparql_tree.specs.Heads.{head}
 use Rattle.sparql_tree.specs.Expressions.{IsExpr, IsCall, call, IsAggregate, count_all, aggregate}
@@ -58,7 +58,7 @@ module _ (expr : Bool → Parser Expr) (nested : (b : Bool) (ts : List Symbol) �
   bound-sound ts us i = then_good (λ (u : Unit {0}) vs. Is s.Open us vs) (IsElement ts) (open_paren us) _ (open-sound us) (λ u vs j.
       then_good (IsExpr false vs) (IsElement ts) (expr false vs) _ (nested false vs) (λ a ws k.
       then_good (λ (w : Unit {0}) xs. Is s.As ws xs) (IsElement ts) (as_word ws) _ (as-sound ws) (λ w xs l.
-      then_good (λ word ys. Holds s.Var word xs ys) (IsElement ts) (name xs) _ (name-sound xs) (λ word ys h.
+      then_good (λ word ys. IsHead s.Var word xs ys) (IsElement ts) (name xs) _ (name-sound xs) (λ word ys h.
       then_good (λ (z : Unit {0}) rest. Is s.Close ys rest) (IsElement ts) (close_paren ys) _ (close-sound ys) (λ z rest m. bind i j k l h m)))))
 
 module _ (expr : Bool → Parser Expr) (nested : (b : Bool) (ts : List Symbol) → Good (IsExpr b ts) (expr b ts))
@@ -271,7 +271,7 @@ module _ (p : Bool → Parser Expr) (g : Parser Group) where
   unfolding r.element
   element-filter i h = at-finds (r.element_by p g) (is-head i) (take-finds i (map-finds Filter h))
 
-  element-bind : {ts us vs ws xs ys rest : List Symbol} {a : Expr} {word : Name} → Is s.Bind ts us → Is s.Open us vs → Finds (p false) vs a ws → Is s.As ws xs → Holds s.Var word xs ys → Is s.Close ys rest
+  element-bind : {ts us vs ws xs ys rest : List Symbol} {a : Expr} {word : Name} → Is s.Bind ts us → Is s.Open us vs → Finds (p false) vs a ws → Is s.As ws xs → IsHead s.Var word xs ys → Is s.Close ys rest
       → Finds (r.element p g) ts (Bind a word) rest
   unfolding r.element r.bound
   element-bind i j h k l m = at-finds (r.element_by p g) (is-head i) (take-finds i

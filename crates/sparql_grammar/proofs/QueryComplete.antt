@@ -9,8 +9,8 @@ use Rattle.sparql_tree.specs.Groups.{Group, SelectItem, GroupKey, OrderKey, Quer
 use Rattle.sparql_tree.specs.declared.symbol.Shape.{Shape}
 use Rattle.sparql_tree.specs.declared.symbol.Shape.TheVariants as s
 use Rattle.sparql_tree.specs.declared.symbol.Symbol.{Symbol}
-use Rattle.sparql_tree.specs.Heads.{Is, Holds}
-use Rattle.sparql_grammar.specs.Parser.{◌>>=◌, ◌>>◌, ◌<$>◌, pure, peek, spelled, more, all_more}
+use Rattle.sparql_tree.specs.Heads.{Is, IsHead}
+use Rattle.sparql_grammar.specs.Parser.{◌>>=◌, ◌>>◌, ◌<$>◌, pure, peek, spelled_value, more, all_more}
 use Rattle.sparql_tree.specs.Heads.{head}
 use Rattle.sparql_tree.specs.Expressions.{call, bound, count_all, aggregate}
 use Rattle.sparql_grammar.specs.ExprReading as x
@@ -155,16 +155,16 @@ distinctness-finds (distinct_rows i) e = at-finds r.distinct_by (is-head i) (tak
 distinctness-finds (reduced_rows i) e = at-finds r.distinct_by (is-head i) (take-finds {q = λ w. Some (false, w)} i (record { found = refl }))
 distinctness-finds (all_rows {ts = ts}) e = record { found = distinctness-none ts (head ts) e }
 
-does_fit : (digits : List ℕ) → are_digits digits ≡ true → numbers.digits_value digits < 2 ^ 64 → r.fits digits ≡ true
+does_fit : (digits : List ℕ) → are_digits digits ≡ true → numbers.digits_value digits < 2 ^ 64 → r.fits_64_bits digits ≡ true
 does_fit digits e h = grind (arith, nat_tests)
 
-spelled-word : {word : List ℕ} {shape : Shape} {ts us : List Symbol} → Holds shape word ts us → Finds spelled ts word us
+spelled-word : {word : List ℕ} {shape : Shape} {ts us : List Symbol} → IsHead shape word ts us → Finds spelled_value ts word us
 spelled-word h = record { found = λ i. Some (holds-value h i, holds-behind h i) }
 
 count-finds : {ts rest : List Symbol} {n : ℕ} → IsCount ts n rest → Finds r.count ts n rest
 unfolding r.count
 count-finds {rest = rest} (count {digits = digits} h e l) =
-    at-finds r.count_by (holds-head h) (then-finds (λ ds. r.counted_if (r.fits ds) (numbers.digits_value ds)) (spelled-word h)
+    at-finds r.count_by (holds-head h) (then-finds (λ ds. r.counted_if (r.fits_64_bits ds) (numbers.digits_value ds)) (spelled-word h)
     (record { found = ap (λ f. r.counted_if f (numbers.digits_value digits) rest) (does_fit digits e l) }))
 
 limit-finds : {ts rest : List Symbol} {n : ℕ} → IsLimit ts n rest → Finds r.limit ts (Some n) rest
@@ -205,7 +205,7 @@ slice-finds (offset_only (offset i c)) e = slice-offset i (count-finds c) (limit
 slice-finds (offset_limit (offset i c) k) e = slice-offset i (count-finds c) (limit-finds k)
 
 module _ (d : ℕ) where
-  item_value-finds : {us vs ws xs rest : List Symbol} {a : Expr} {word : Name} → Finds (x.expr d true) us a vs → Is s.As vs ws → Holds s.Var word ws xs → Is s.Close xs rest
+  item_value-finds : {us vs ws xs rest : List Symbol} {a : Expr} {word : Name} → Finds (x.expr d true) us a vs → Is s.As vs ws → IsHead s.Var word ws xs → Is s.Close xs rest
       → Finds (r.item_value d) us (item word (Some a)) rest
   unfolding r.item_value
   item_value-finds h i k m = then-finds _ h (then-finds _ (as-finds i) (then-finds _ (name-finds k) (then-finds _ (close-finds m) (record { found = refl }))))
@@ -256,7 +256,7 @@ module _ (d : ℕ) where
   unfolding r.key_value
   key_value-plain {a = a} h m = then-finds (λ b. peek >>= r.key_end d b) h (at-finds (r.key_end d a) (is-head m) (then-finds _ (close-finds m) (record { found = refl })))
 
-  key_value-named : {us vs ws xs rest : List Symbol} {a : Expr} {word : Name} → Finds (x.expr d false) us a vs → Is s.As vs ws → Holds s.Var word ws xs → Is s.Close xs rest
+  key_value-named : {us vs ws xs rest : List Symbol} {a : Expr} {word : Name} → Finds (x.expr d false) us a vs → Is s.As vs ws → IsHead s.Var word ws xs → Is s.Close xs rest
       → Finds (r.key_value d) us (key a (Some word)) rest
   unfolding r.key_value
   key_value-named {a = a} h i k m = then-finds (λ b. peek >>= r.key_end d b) h (at-finds (r.key_end d a) (is-head i) (take-finds i (then-finds _ (name-finds k) (then-finds _ (close-finds m) (record { found = refl })))))

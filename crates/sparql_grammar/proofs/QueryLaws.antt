@@ -8,8 +8,8 @@ use Rattle.sparql_tree.specs.Groups.{SelectItem, GroupKey, OrderKey, Query}
 use Rattle.sparql_tree.specs.declared.symbol.Shape.{Shape}
 use Rattle.sparql_tree.specs.declared.symbol.Shape.TheVariants as s
 use Rattle.sparql_tree.specs.declared.symbol.Symbol.{Symbol}
-use Rattle.sparql_tree.specs.Heads.{Is, Holds}
-use Rattle.sparql_grammar.specs.Parser.{next, value, ◌>>=◌, ◌<$>◌, pure, open_paren, close_paren, as_word, name}
+use Rattle.sparql_tree.specs.Heads.{Is, IsHead}
+use Rattle.sparql_grammar.specs.Parser.{next, first_value, ◌>>=◌, ◌<$>◌, pure, open_paren, close_paren, as_word, name}
 use Rattle.sparql_tree.specs.Heads.{head}
 use Rattle.sparql_tree.specs.Expressions.{IsExpr, IsCall}
 use Rattle.sparql_grammar.specs.ExprReading as x
@@ -56,10 +56,10 @@ distinctness-sound ts = by (head ts) refl
     by (Some s.Reduced) h = reduced_rows (is-next s.Reduced ts h)
     by o h = all_rows
 
-both_fit : (digits : List ℕ) → r.fits digits ≡ true → (are_digits digits ≡ true) × (numbers.digits_value digits < 2 ^ 64)
+both_fit : (digits : List ℕ) → r.fits_64_bits digits ≡ true → (are_digits digits ≡ true) × (numbers.digits_value digits < 2 ^ 64)
 both_fit digits h = grind (arith, nat_tests)
 
-counted-sound : (ts rest : List Symbol) (digits : List ℕ) (fit : Bool) → r.fits digits ≡ fit → Holds s.Integer digits ts rest → Good (IsCount ts) (r.counted_if fit (numbers.digits_value digits) rest)
+counted-sound : (ts rest : List Symbol) (digits : List ℕ) (fit : Bool) → r.fits_64_bits digits ≡ fit → IsHead s.Integer digits ts rest → Good (IsCount ts) (r.counted_if fit (numbers.digits_value digits) rest)
 counted-sound ts rest digits true e h = let both = both_fit digits e in count h both.0 both.1
 counted-sound ts rest digits false e h = tt
 
@@ -68,7 +68,7 @@ unfolding r.count
 count-sound ts = by (head ts) refl
   where
     by : (o : Option Shape) → head ts ≡ o → Good (IsCount ts) (r.count_by o ts)
-    by (Some s.Integer) h = counted-sound ts (next ts) (value ts) (r.fits (value ts)) refl (holds-next s.Integer ts h)
+    by (Some s.Integer) h = counted-sound ts (next ts) (first_value ts) (r.fits_64_bits (first_value ts)) refl (holds-next s.Integer ts h)
     by o h = tt
 
 -- what an offset that may be left out reads
@@ -132,7 +132,7 @@ module _ (room : ℕ) where
   unfolding r.item_value
   item_value-sound ts us i = then_good (IsExpr true us) (IsItem ts) (x.expr room true us) _ (expr-sound room true us) (λ a vs k.
       then_good (λ (u : Unit {0}) ws. Is s.As vs ws) (IsItem ts) (as_word vs) _ (as-sound vs) (λ u ws l.
-      then_good (λ word xs. Holds s.Var word ws xs) (IsItem ts) (name ws) _ (name-sound ws) (λ word xs h.
+      then_good (λ word xs. IsHead s.Var word ws xs) (IsItem ts) (name ws) _ (name-sound ws) (λ word xs h.
       then_good (λ (w : Unit {0}) rest. Is s.Close xs rest) (IsItem ts) (close_paren xs) _ (close-sound xs) (λ w rest m. item_value i k l h m))))
 
   item_by-sound : (ts : List Symbol) (o : Option Shape) → head ts ≡ o → Good (IsItem ts) (r.item_by room o ts)
@@ -173,7 +173,7 @@ module _ (room : ℕ) where
   selection-sound ts = selection_by-sound ts (head ts) refl
 
   key_end-sound : (ts us vs : List Symbol) (a : Expr) (o : Option Shape) → head vs ≡ o → Is s.Open ts us → IsExpr false us a vs → Good (IsKey ts) (r.key_end room a o vs)
-  key_end-sound ts us vs a (Some s.As) h i k = then_good (λ word xs. Holds s.Var word (next vs) xs) (IsKey ts) (name (next vs)) _ (name-sound (next vs)) (λ word xs l.
+  key_end-sound ts us vs a (Some s.As) h i k = then_good (λ word xs. IsHead s.Var word (next vs) xs) (IsKey ts) (name (next vs)) _ (name-sound (next vs)) (λ word xs l.
       then_good (λ (w : Unit {0}) rest. Is s.Close xs rest) (IsKey ts) (close_paren xs) _ (close-sound xs) (λ w rest m. key_named i k (is-next s.As vs h) l m))
   key_end-sound ts us vs a o h i k = then_good (λ (w : Unit {0}) rest. Is s.Close vs rest) (IsKey ts) (close_paren vs) _ (close-sound vs) (λ w rest m. key_value i k m)
 

@@ -4,9 +4,9 @@ use Rattle.std.proofs.lemmas.List.{append-nil}
 use Rattle.sparql_tree.specs.declared.symbol.Shape.{Shape}
 use Rattle.sparql_tree.specs.declared.symbol.Shape.TheVariants as s
 use Rattle.sparql_tree.specs.declared.symbol.Symbol.{Symbol}
-use Rattle.sparql_tree.specs.Heads.{Is, is, Holds, holds}
+use Rattle.sparql_tree.specs.Heads.{Is, is, IsHead, holds}
 use Rattle.sparql_grammar.specs.Parser as p
-use Rattle.sparql_grammar.specs.Parser.{Parser, and_then, next, value, more, all_more, again, repeat, all_steps, onward, ◌>>=◌, ◌>>◌, ◌<<◌, ◌<$>◌, peek, take, spelled, pure, close_paren}
+use Rattle.sparql_grammar.specs.Parser.{Parser, and_then, next, first_value, more, all_more, again, repeat, all_steps, onward, ◌>>=◌, ◌>>◌, ◌<<◌, ◌<$>◌, peek, take, spelled_value, pure, close_paren}
 use Rattle.sparql_tree.specs.Heads.{head}
 
 -- ---- symbols
@@ -16,10 +16,10 @@ unfolding head next
 is-next shape [] h = absurd cc
 is-next shape (t ∷ ts) h = let e : t.shape ≡ shape = cc in subst (λ v. Is v (t ∷ ts) ts) e (is {shape = t.shape} {value = t.value} {rest = ts})
 
-pub holds-next : (shape : Shape) (ts : List Symbol) → head ts ≡ Some shape → Holds shape (value ts) ts (next ts)
-unfolding head next value
+pub holds-next : (shape : Shape) (ts : List Symbol) → head ts ≡ Some shape → IsHead shape (first_value ts) ts (next ts)
+unfolding head next first_value
 holds-next shape [] h = absurd cc
-holds-next shape (t ∷ ts) h = let e : t.shape ≡ shape = cc in subst (λ v. Holds v t.value (t ∷ ts) ts) e (holds {shape = t.shape} {value = t.value} {rest = ts})
+holds-next shape (t ∷ ts) h = let e : t.shape ≡ shape = cc in subst (λ v. IsHead v t.value (t ∷ ts) ts) e (holds {shape = t.shape} {value = t.value} {rest = ts})
 
 pub is-head : {shape : Shape} {ts us : List Symbol} → Is shape ts us → head ts ≡ Some shape
 unfolding head
@@ -29,22 +29,22 @@ pub is-behind : {shape : Shape} {ts us : List Symbol} → Is shape ts us → nex
 unfolding next
 is-behind is = refl
 
-pub holds-head : {shape : Shape} {word : List ℕ} {ts us : List Symbol} → Holds shape word ts us → head ts ≡ Some shape
+pub holds-head : {shape : Shape} {word : List ℕ} {ts us : List Symbol} → IsHead shape word ts us → head ts ≡ Some shape
 unfolding head
 holds-head holds = refl
 
-pub holds-behind : {shape : Shape} {word : List ℕ} {ts us : List Symbol} → Holds shape word ts us → next ts ≡ us
+pub holds-behind : {shape : Shape} {word : List ℕ} {ts us : List Symbol} → IsHead shape word ts us → next ts ≡ us
 unfolding next
 holds-behind holds = refl
 
-pub holds-value : {shape : Shape} {word : List ℕ} {ts us : List Symbol} → Holds shape word ts us → value ts ≡ word
-unfolding value
+pub holds-value : {shape : Shape} {word : List ℕ} {ts us : List Symbol} → IsHead shape word ts us → first_value ts ≡ word
+unfolding first_value
 holds-value holds = refl
 
 pub is-shorter : {shape : Shape} {ts us : List Symbol} → Is shape ts us → length us < length ts
 is-shorter is = omega arith
 
-pub holds-shorter : {shape : Shape} {word : List ℕ} {ts us : List Symbol} → Holds shape word ts us → length us < length ts
+pub holds-shorter : {shape : Shape} {word : List ℕ} {ts us : List Symbol} → IsHead shape word ts us → length us < length ts
 holds-shorter holds = omega arith
 
 -- ---- sound: what was read, if anything, is as P says
@@ -116,11 +116,11 @@ close-sound ts = by (head ts) refl
     by (Some s.Close) h = is-next s.Close ts h
     by o h = tt
 
-pub name-sound : (ts : List Symbol) → Good (λ word us. Holds s.Var word ts us) (p.name ts)
+pub name-sound : (ts : List Symbol) → Good (λ word us. IsHead s.Var word ts us) (p.name ts)
 unfolding p.name
 name-sound ts = by (head ts) refl
   where
-    by : (o : Option Shape) → head ts ≡ o → Good (λ word us. Holds s.Var word ts us) (p.name_by o ts)
+    by : (o : Option Shape) → head ts ≡ o → Good (λ word us. IsHead s.Var word ts us) (p.name_by o ts)
     by (Some s.Var) h = holds-next s.Var ts h
     by o h = tt
 
@@ -151,8 +151,8 @@ pub close-finds : {ts us : List Symbol} → Is s.Close ts us → Finds p.close_p
 unfolding p.close_paren head next
 close-finds is = record { found = refl }
 
-pub name-finds : {ts us : List Symbol} {word : List ℕ} → Holds s.Var word ts us → Finds p.name ts word us
-unfolding p.name head next value
+pub name-finds : {ts us : List Symbol} {word : List ℕ} → IsHead s.Var word ts us → Finds p.name ts word us
+unfolding p.name head next first_value
 name-finds holds = record { found = refl }
 
 -- ---- how finds compose
@@ -169,7 +169,7 @@ take-finds {q = q} i h = record { found = ap q (is-behind i) ∙ h.found }
 pub at-finds : {A : Type 0} (by : Option Shape → Parser A) {ts rest : List Symbol} {a : A} {o : Option Shape} → head ts ≡ o → Finds (by o) ts a rest → Finds (peek >>= by) ts a rest
 at-finds by {ts = ts} e h = record { found = ap (λ o. by o ts) e ∙ h.found }
 
-pub spelled-finds : {A : Type 0} (f : List ℕ → A) {shape : Shape} {word : List ℕ} {ts rest : List Symbol} → Holds shape word ts rest → Finds (f <$> spelled) ts (f word) rest
+pub spelled-finds : {A : Type 0} (f : List ℕ → A) {shape : Shape} {word : List ℕ} {ts rest : List Symbol} → IsHead shape word ts rest → Finds (f <$> spelled_value) ts (f word) rest
 spelled-finds f h = record { found = λ i. Some (f (holds-value h i), holds-behind h i) }
 
 pub closed-finds : {A : Type 0} {q : Parser A} {ts us rest : List Symbol} {a : A} → Finds q ts a us → Is s.Close us rest → Finds (q << close_paren) ts a rest

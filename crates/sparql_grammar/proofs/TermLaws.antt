@@ -10,8 +10,8 @@ use Rattle.term_core.specs.declared.term.Term.TheVariants as terms
 use Rattle.sparql_tree.specs.declared.symbol.Shape.{Shape}
 use Rattle.sparql_tree.specs.declared.symbol.Shape.TheVariants as s
 use Rattle.sparql_tree.specs.declared.symbol.Symbol.{Symbol}
-use Rattle.sparql_tree.specs.Heads.{Is, is, Holds, holds}
-use Rattle.sparql_grammar.specs.Parser.{Parser, next, value, refuse, pure}
+use Rattle.sparql_tree.specs.Heads.{Is, is, IsHead, holds}
+use Rattle.sparql_grammar.specs.Parser.{Parser, next, first_value, refuse, pure}
 use Rattle.sparql_tree.specs.Heads.{head}
 use Rattle.sparql_tree.specs.Terms.{IsNumber, integer, decimal, IsTerm, iri, plain, tagged, typed, number, plus, minus, boolean, literal}
 use Rattle.sparql_grammar.specs.TermReading as r
@@ -32,7 +32,7 @@ abbrev chosen : Bool → List ℕ → List ℕ → Parser Term
 chosen same lexical datatype = if same then refuse else pure (literal lexical datatype)
 
 -- a datatype that is not that of strings with a tag
-datatyped-sound : (lexical datatype : List ℕ) (ts us vs rest : List Symbol) → Holds s.Quoted lexical ts us → Is s.Typed us vs → Holds s.Iri datatype vs rest
+datatyped-sound : (lexical datatype : List ℕ) (ts us vs rest : List Symbol) → IsHead s.Quoted lexical ts us → Is s.Typed us vs → IsHead s.Iri datatype vs rest
     → Good (IsTerm ts) (r.datatyped lexical datatype rest)
 datatyped-sound lexical datatype ts us vs rest q t d = go (bytes_eq datatype lang_string) refl
   where
@@ -40,24 +40,24 @@ datatyped-sound lexical datatype ts us vs rest q t d = go (bytes_eq datatype lan
     go true e = tt
     go false e = typed q t d (λ equal. let t : bytes_eq datatype lang_string ≡ true = (bytes_eq-Decides datatype lang_string).1 equal in absurd cc)
 
-typed_by-sound : (lexical : List ℕ) (ts us vs : List Symbol) (o : Option Shape) → head vs ≡ o → Holds s.Quoted lexical ts us → Is s.Typed us vs
+typed_by-sound : (lexical : List ℕ) (ts us vs : List Symbol) (o : Option Shape) → head vs ≡ o → IsHead s.Quoted lexical ts us → Is s.Typed us vs
     → Good (IsTerm ts) (r.typed_by lexical o vs)
-typed_by-sound lexical ts us vs (Some s.Iri) h q t = datatyped-sound lexical (value vs) ts us vs (next vs) q t (holds-next s.Iri vs h)
+typed_by-sound lexical ts us vs (Some s.Iri) h q t = datatyped-sound lexical (first_value vs) ts us vs (next vs) q t (holds-next s.Iri vs h)
 typed_by-sound lexical ts us vs o h q t = tt
 
-quoted_by-sound : (lexical : List ℕ) (ts us : List Symbol) (o : Option Shape) → head us ≡ o → Holds s.Quoted lexical ts us → Good (IsTerm ts) (r.quoted_by lexical o us)
+quoted_by-sound : (lexical : List ℕ) (ts us : List Symbol) (o : Option Shape) → head us ≡ o → IsHead s.Quoted lexical ts us → Good (IsTerm ts) (r.quoted_by lexical o us)
 unfolding r.typed
 quoted_by-sound lexical ts us (Some s.Tag) h q = tagged q (holds-next s.Tag us h)
 quoted_by-sound lexical ts us (Some s.Typed) h q = typed_by-sound lexical ts us (next us) (head (next us)) refl q (is-next s.Typed us h)
 quoted_by-sound lexical ts us o h q = plain q
 
-quoted-sound : (lexical : List ℕ) (ts us : List Symbol) → Holds s.Quoted lexical ts us → Good (IsTerm ts) (r.quoted lexical us)
+quoted-sound : (lexical : List ℕ) (ts us : List Symbol) → IsHead s.Quoted lexical ts us → Good (IsTerm ts) (r.quoted lexical us)
 unfolding r.quoted
 quoted-sound lexical ts us q = quoted_by-sound lexical ts us (head us) refl q
 
 term_by-sound : (ts : List Symbol) (o : Option Shape) → head ts ≡ o → Good (IsTerm ts) (r.term_by o ts)
 term_by-sound ts (Some s.Iri) h = iri (holds-next s.Iri ts h)
-term_by-sound ts (Some s.Quoted) h = quoted-sound (value ts) ts (next ts) (holds-next s.Quoted ts h)
+term_by-sound ts (Some s.Quoted) h = quoted-sound (first_value ts) ts (next ts) (holds-next s.Quoted ts h)
 term_by-sound ts (Some s.Boolean) h = boolean (holds-next s.Boolean ts h)
 term_by-sound ts (Some s.Plus) h = weaken (IsNumber (codes "+") (next ts)) (IsTerm ts) _ (number-sound (codes "+") (next ts)) (λ a us k. plus (is-next s.Plus ts h) k)
 term_by-sound ts (Some s.Minus) h = weaken (IsNumber (codes "-") (next ts)) (IsTerm ts) _ (number-sound (codes "-") (next ts)) (λ a us k. minus (is-next s.Minus ts h) k)
@@ -92,7 +92,7 @@ ends_string (Some s.Typed) = false
 ends_string o = true
 
 pub number-finds : {sign : List ℕ} {ts rest : List Symbol} {a : Term} → IsNumber sign ts a rest → Finds (r.number sign) ts a rest
-unfolding r.number head next value
+unfolding r.number head next first_value
 number-finds (integer holds) = record { found = refl }
 number-finds (decimal holds) = record { found = refl }
 
@@ -112,21 +112,21 @@ datatyped-finds lexical datatype rest other = go (bytes_eq datatype lang_string)
     go true e = absurd (other ((bytes_eq-Decides datatype lang_string).0 e))
     go false e = refl
 
-quoted-tagged : {lexical tag : List ℕ} {us rest : List Symbol} → Holds s.Tag tag us rest → Finds (r.quoted lexical) us (terms.Literal lexical lang_string tag) rest
-unfolding r.quoted head next value
+quoted-tagged : {lexical tag : List ℕ} {us rest : List Symbol} → IsHead s.Tag tag us rest → Finds (r.quoted lexical) us (terms.Literal lexical lang_string tag) rest
+unfolding r.quoted head next first_value
 quoted-tagged holds = record { found = refl }
 
-quoted-typed : {lexical datatype : List ℕ} {us vs rest : List Symbol} → Is s.Typed us vs → Holds s.Iri datatype vs rest → datatype ≢ lang_string
+quoted-typed : {lexical datatype : List ℕ} {us vs rest : List Symbol} → Is s.Typed us vs → IsHead s.Iri datatype vs rest → datatype ≢ lang_string
     → Finds (r.quoted lexical) us (literal lexical datatype) rest
-unfolding r.quoted r.typed head next value
+unfolding r.quoted r.typed head next first_value
 quoted-typed {lexical = lexical} {datatype = datatype} {rest = rest} is holds other = record { found = datatyped-finds lexical datatype rest other }
 
-term-quoted : {lexical : List ℕ} {ts us rest : List Symbol} {a : Term} → Holds s.Quoted lexical ts us → Finds (r.quoted lexical) us a rest → Finds r.term ts a rest
-unfolding r.term head next value
+term-quoted : {lexical : List ℕ} {ts us rest : List Symbol} {a : Term} → IsHead s.Quoted lexical ts us → Finds (r.quoted lexical) us a rest → Finds r.term ts a rest
+unfolding r.term head next first_value
 term-quoted holds k = record { found = k.found }
 
 number-term : {ts rest : List Symbol} {a : Term} → IsNumber [] ts a rest → Finds (r.number []) ts a rest → Finds r.term ts a rest
-unfolding r.term head next value
+unfolding r.term head next first_value
 number-term (integer holds) k = record { found = k.found }
 number-term (decimal holds) k = record { found = k.found }
 
@@ -138,12 +138,12 @@ term-minus : {ts us rest : List Symbol} {a : Term} → Is s.Minus ts us → Find
 unfolding r.term head next
 term-minus is k = record { found = k.found }
 
-term-iri : {ts rest : List Symbol} {word : List ℕ} → Holds s.Iri word ts rest → Finds r.term ts (terms.Iri word) rest
-unfolding r.term head next value
+term-iri : {ts rest : List Symbol} {word : List ℕ} → IsHead s.Iri word ts rest → Finds r.term ts (terms.Iri word) rest
+unfolding r.term head next first_value
 term-iri holds = record { found = refl }
 
-term-boolean : {ts rest : List Symbol} {word : List ℕ} → Holds s.Boolean word ts rest → Finds r.term ts (literal word xsd_boolean) rest
-unfolding r.term head next value
+term-boolean : {ts rest : List Symbol} {word : List ℕ} → IsHead s.Boolean word ts rest → Finds r.term ts (literal word xsd_boolean) rest
+unfolding r.term head next first_value
 term-boolean holds = record { found = refl }
 
 pub term-finds : {ts rest : List Symbol} {a : Term} → IsTerm ts a rest → ends_string (head rest) ≡ true → Finds r.term ts a rest

@@ -7,8 +7,8 @@ use Rattle.sparql_tree.specs.Groups.{Element, Values}
 use Rattle.sparql_tree.specs.declared.symbol.Shape.{Shape}
 use Rattle.sparql_tree.specs.declared.symbol.Shape.TheVariants as s
 use Rattle.sparql_tree.specs.declared.symbol.Symbol.{Symbol}
-use Rattle.sparql_tree.specs.Heads.{Is, Holds}
-use Rattle.sparql_grammar.specs.Parser.{next, value, ◌>>=◌, ◌>>◌, ◌<<◌, ◌<$>◌, pure, take, spelled, more, all_more, open_brace, close_brace, close_paren}
+use Rattle.sparql_tree.specs.Heads.{Is, IsHead}
+use Rattle.sparql_grammar.specs.Parser.{next, first_value, ◌>>=◌, ◌>>◌, ◌<<◌, ◌<$>◌, pure, take, spelled_value, more, all_more, open_brace, close_brace, close_paren}
 use Rattle.sparql_tree.specs.Heads.{head}
 use Rattle.sparql_tree.specs.Terms.{IsTerm}
 use Rattle.sparql_grammar.specs.TermReading.{term}
@@ -74,7 +74,7 @@ full_rows-sound : (names : List Name) (ts : List Symbol) → Good (Adds (FullRow
 unfolding r.full_rows
 full_rows-sound names ts = all_more-sound (FullRows names) (r.full_turn names) (λ us. full_end) (λ us. full_turn-sound names us (head us) refl) [] ts
 
-one-sound : (name : Name) (ts us : List Symbol) → Holds s.Var name ts us → Good (HasValues ts) (r.one name us)
+one-sound : (name : Name) (ts us : List Symbol) → IsHead s.Var name ts us → Good (HasValues ts) (r.one name us)
 unfolding r.one
 one-sound name ts us h = then_good (λ (x : Unit {0}) vs. Is s.OpenBrace us vs) (HasValues ts) (open_brace us) _ (open_brace-sound us) (λ x vs i.
     then_good (Adds (OneRows name vs) []) (HasValues ts) (r.one_rows (name ∷ []) vs) _ (one_rows-sound name vs) (λ rows ws k.
@@ -91,7 +91,7 @@ full-sound ts us h = then_good (Adds (IsNames us) []) (HasValues ts) (r.names us
     record { names = names; rows = m.0; is_values = values_full h (subst (λ v. IsNames us v vs) (sym k.1) k.2) i j m.2 l; same = ap (Values names) (sym m.1) })))))
 
 values_by-sound : (ts : List Symbol) (o : Option Shape) → head ts ≡ o → Good (HasValues ts) (r.values_by o ts)
-values_by-sound ts (Some s.Var) h = one-sound (value ts) ts (next ts) (holds-next s.Var ts h)
+values_by-sound ts (Some s.Var) h = one-sound (first_value ts) ts (next ts) (holds-next s.Var ts h)
 values_by-sound ts (Some s.Open) h = full-sound ts (next ts) (is-next s.Open ts h)
 values_by-sound ts o h = tt
 
@@ -197,7 +197,7 @@ one_rows-finds name (one_more {ts = ts} {us = us} {row = row} {more = xs} h k) i
     more-step (r.one_turn (name ∷ [])) (r.row (name ∷ [])) n found ts us row (one_turn-row name (head ts) (one-row-begins h)) (row-finds (name ∷ []) h (one_rows-ends k (ap ends_string (is-head i))))
     (same_found (one_rows-finds name k i n (found ++ row ∷ []) (omega (arith, one-row-shorter h))) (append_assoc found (row ∷ []) xs))
 
-spelled-name : {name : Name} {ts us : List Symbol} → Holds s.Var name ts us → Finds spelled ts name us
+spelled-name : {name : Name} {ts us : List Symbol} → IsHead s.Var name ts us → Finds spelled_value ts name us
 spelled-name h = record { found = λ i. Some (holds-value h i, holds-behind h i) }
 
 names-finds : {names : List Name} {ts us rest : List Symbol} → IsNames ts names us → Is s.Close us rest → (n : ℕ) (found : List Name) → length ts ≤ n
@@ -205,7 +205,7 @@ names-finds : {names : List Name} {ts us rest : List Symbol} → IsNames ts name
 names-finds (names_end {ts = ts}) i n found le = same_found (more-stop r.names_turn n found ts (ap r.names_turn (is-head i))) (none_more found)
 names-finds (names_more h k) i zero found le = absurd (omega (arith, holds-shorter h))
 names-finds (names_more {ts = ts} {us = us} {name = name} {more = xs} h k) i (suc n) found le =
-    more-step r.names_turn spelled n found ts us name (ap r.names_turn (holds-head h)) (spelled-name h)
+    more-step r.names_turn spelled_value n found ts us name (ap r.names_turn (holds-head h)) (spelled-name h)
     (same_found (names-finds k i n (found ++ name ∷ []) (omega (arith, holds-shorter h))) (append_assoc found (name ∷ []) xs))
 
 full_rows-finds : (names : List Name) {rows : List Row} {ts us rest : List Symbol} → FullRows names ts rows us → Is s.CloseBrace us rest → (n : ℕ) (found : List Row) → length ts ≤ n
@@ -228,7 +228,7 @@ unfolding r.full r.names r.full_rows all_more
 full-finds {names = names} h i j k m = then-finds (λ variables. close_paren >> (open_brace >> (r.full_rows variables >>= (λ rows. close_brace >> pure (Values variables rows))))) (record { found = h.found })
     (then-finds _ (close-finds i) (then-finds _ (open_brace-finds j) (then-finds (λ rows. close_brace >> pure (Values names rows)) (record { found = k.found }) (then-finds _ (close_brace-finds m) (record { found = refl })))))
 
-values-one : {name : Name} {ts us rest : List Symbol} {a : Element} → Holds s.Var name ts us → Finds (r.one name) us a rest → Finds r.values ts a rest
+values-one : {name : Name} {ts us rest : List Symbol} {a : Element} → IsHead s.Var name ts us → Finds (r.one name) us a rest → Finds r.values ts a rest
 unfolding r.values
 values-one {name = name} h k = at-finds r.values_by (holds-head h) (then-finds (λ n. r.one n) (spelled-name h) k)
 

@@ -8,7 +8,7 @@ use Rattle.sparql_tree.specs.declared.words.Function.{Function}
 use Rattle.sparql_tree.specs.declared.words.Function.TheVariants as functions
 use Rattle.sparql_tree.specs.declared.symbol.Shape.{Shape}
 use Rattle.sparql_tree.specs.declared.symbol.Shape.TheVariants as s
-use Rattle.sparql_grammar.specs.Parser.{Parser, ◌>>=◌, ◌>>◌, ◌<<◌, ◌<$>◌, pure, refuse, peek, take, spelled, all_more, open_paren, close_paren, name}
+use Rattle.sparql_grammar.specs.Parser.{Parser, ◌>>=◌, ◌>>◌, ◌<<◌, ◌<$>◌, pure, refuse, peek, take, spelled_value, all_more, open_paren, close_paren, name}
 use Rattle.sparql_grammar.specs.TermReading.{term, number}
 use Rattle.sparql_tree.specs.Expressions.{or_node, and_node, sum_node, product_node, op_of, begins_number, takes}
 
@@ -17,8 +17,8 @@ distinct_by (Some s.Distinct) = take >> pure true
 distinct_by o = pure false
 
 -- DISTINCT or nothing
-unfoldable pub distinct : Parser Bool
-distinct = peek >>= distinct_by
+unfoldable pub distinct_or_all : Parser Bool
+distinct_or_all = peek >>= distinct_by
 
 -- the comparison that comes next, if any
 abbrev pub op_at : Option Shape → Option CompareOp
@@ -77,14 +77,14 @@ module _ (expr : Bool → Parser Expr) (b : Bool) where
 
   -- behind the aggregate's name
   unfoldable pub aggregate : AggregateKind → Parser Expr
-  aggregate kind = open_paren >> (distinct >>= (λ once. (peek >>= counted kind once) << close_paren))
+  aggregate kind = open_paren >> (distinct_or_all >>= (λ once. (peek >>= counted kind once) << close_paren))
 
   abbrev pub aggregate_if : Bool → AggregateKind → Parser Expr
   aggregate_if true kind = take >> aggregate kind
   aggregate_if false kind = refuse
 
   abbrev pub atom_by : Option Shape → Parser Expr
-  atom_by (Some s.Var) = Var <$> spelled
+  atom_by (Some s.Var) = Var <$> spelled_value
   atom_by (Some s.Open) = take >> (expr b << close_paren)
   atom_by (Some (s.Function function)) = take >> call function
   atom_by (Some (s.Aggregate kind)) = aggregate_if b kind

@@ -11,16 +11,16 @@ value_of [] = []
 value_of (first ∷ rest) = first.value
 
 -- the symbols behind the first
-abbrev pub behind : List Symbol → List Symbol
-behind [] = []
-behind (first ∷ rest) = rest
+abbrev pub behind_first : List Symbol → List Symbol
+behind_first [] = []
+behind_first (first ∷ rest) = rest
 
 -- these two, kept folded
-unfoldable pub value : List Symbol → List ℕ
-value ts = value_of ts
+unfoldable pub first_value : List Symbol → List ℕ
+first_value ts = value_of ts
 
 unfoldable pub next : List Symbol → List Symbol
-next ts = behind ts
+next ts = behind_first ts
 
 -- a reader of symbols
 abbrev pub Parser : Type 0 → Type 0
@@ -63,8 +63,8 @@ abbrev pub take : Parser (Unit {0})
 take = λ ts. Some (tt, next ts)
 
 -- its value is taken
-abbrev pub spelled : Parser (List ℕ)
-spelled = λ ts. Some (value ts, next ts)
+abbrev pub spelled_value : Parser (List ℕ)
+spelled_value = λ ts. Some (first_value ts, next ts)
 
 -- one more, if the next symbol begins one
 abbrev pub again : {A : Type 0} → Option (Parser A) → (List A → Parser (List A)) → List A → Parser (List A)
@@ -111,7 +111,7 @@ unfoldable pub close_paren : Parser (Unit {0})
 close_paren = peek >>= close_by
 
 abbrev pub name_by : Option Shape → Parser (List ℕ)
-name_by (Some s.Var) = spelled
+name_by (Some s.Var) = spelled_value
 name_by o = refuse
 
 unfoldable pub name : Parser (List ℕ)

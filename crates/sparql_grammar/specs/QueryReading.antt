@@ -6,7 +6,7 @@ use Rattle.sparql_tree.specs.Exprs.{Expr, Var}
 use Rattle.sparql_tree.specs.Groups.{Group, SelectItem, GroupKey, OrderKey, Query}
 use Rattle.sparql_tree.specs.declared.symbol.Shape.{Shape}
 use Rattle.sparql_tree.specs.declared.symbol.Shape.TheVariants as s
-use Rattle.sparql_grammar.specs.Parser.{Parser, ◌>>=◌, ◌>>◌, ◌<$>◌, pure, refuse, peek, take, spelled, all_more, open_paren, close_paren, as_word, name}
+use Rattle.sparql_grammar.specs.Parser.{Parser, ◌>>=◌, ◌>>◌, ◌<$>◌, pure, refuse, peek, take, spelled_value, all_more, open_paren, close_paren, as_word, name}
 use Rattle.sparql_grammar.specs.ExprReading.{expr, call}
 use Rattle.sparql_grammar.specs.GroupReading.{constraint, group}
 use Rattle.sparql_tree.specs.Queries.{item, key, ordered}
@@ -41,14 +41,14 @@ unfoldable pub distinctness : Parser Bool
 distinctness = peek >>= distinct_by
 
 -- the number that digits write, below 2^64
-abbrev pub fits : List ℕ → Bool
-fits digits = are_digits digits && nat_lt (numbers.digits_value digits) (2 ^ 64)
+abbrev pub fits_64_bits : List ℕ → Bool
+fits_64_bits digits = are_digits digits && nat_lt (numbers.digits_value digits) (2 ^ 64)
 
 abbrev pub counted_if : Bool → ℕ → Parser ℕ
 counted_if fit n = if fit then pure n else refuse
 
 abbrev pub count_by : Option Shape → Parser ℕ
-count_by (Some s.Integer) = spelled >>= (λ digits. counted_if (fits digits) (numbers.digits_value digits))
+count_by (Some s.Integer) = spelled_value >>= (λ digits. counted_if (fits_64_bits digits) (numbers.digits_value digits))
 count_by o = refuse
 
 unfoldable pub count : Parser ℕ
@@ -83,7 +83,7 @@ module _ (room : ℕ) where
   item_value = expr room true >>= (λ a. as_word >> (name >>= (λ n. close_paren >> pure (item n (Some a)))))
 
   abbrev pub item_by : Option Shape → Parser SelectItem
-  item_by (Some s.Var) = (λ n. item n None) <$> spelled
+  item_by (Some s.Var) = (λ n. item n None) <$> spelled_value
   item_by (Some s.Open) = take >> item_value
   item_by o = refuse
 
@@ -114,7 +114,7 @@ module _ (room : ℕ) where
   key_value = expr room false >>= (λ a. peek >>= key_end a)
 
   abbrev pub key_by : Option Shape → Parser GroupKey
-  key_by (Some s.Var) = (λ n. key (Var n) (Some n)) <$> spelled
+  key_by (Some s.Var) = (λ n. key (Var n) (Some n)) <$> spelled_value
   key_by (Some s.Open) = take >> key_value
   key_by (Some (s.Function function)) = take >> ((λ a. key a None) <$> call (expr room) false function)
   key_by o = refuse
@@ -161,7 +161,7 @@ module _ (room : ℕ) where
   abbrev pub order_by : Option Shape → Parser OrderKey
   order_by (Some s.Asc) = take >> directed false
   order_by (Some s.Desc) = take >> directed true
-  order_by (Some s.Var) = (λ n. ordered (Var n) false) <$> spelled
+  order_by (Some s.Var) = (λ n. ordered (Var n) false) <$> spelled_value
   order_by o = (λ a. ordered a false) <$> constraint (expr room) true
 
   unfoldable pub one_order : Parser OrderKey

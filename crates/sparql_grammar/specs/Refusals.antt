@@ -7,7 +7,7 @@ use Rattle.sparql_tree.specs.declared.symbol.Symbol.{Symbol}
 use Rattle.sparql_tree.specs.Queries.{IsQuery}
 
 -- want of memory, or that they spell no query
-abbrev pub WhyNone : List Symbol → QueryFault → Type 0
-WhyNone symbols faults.Memory = Unit {0}
-WhyNone symbols faults.NotAQuery = (query : Query) → IsQuery symbols query → ⊥
-WhyNone symbols fault = ⊥
+abbrev pub WhyNoQuery : List Symbol → QueryFault → Type 0
+WhyNoQuery symbols faults.Memory = Unit {0}
+WhyNoQuery symbols faults.NotAQuery = (query : Query) → IsQuery symbols query → ⊥
+WhyNoQuery symbols fault = ⊥

@@ -7,21 +7,21 @@ use Rattle.term_core.specs.declared.term.Term.TheVariants as terms
 use Rattle.sparql_tree.specs.Groups.{Element, Triples}
 use Rattle.sparql_tree.specs.declared.symbol.Shape.{Shape}
 use Rattle.sparql_tree.specs.declared.symbol.Shape.TheVariants as s
-use Rattle.sparql_grammar.specs.Parser.{Parser, ◌>>=◌, ◌>>◌, ◌<$>◌, pure, refuse, peek, take, spelled, all_more, all_steps}
+use Rattle.sparql_grammar.specs.Parser.{Parser, ◌>>=◌, ◌>>◌, ◌<$>◌, pure, refuse, peek, take, spelled_value, all_more, all_steps}
 use Rattle.sparql_grammar.specs.TermReading.{term}
 use Rattle.sparql_tree.specs.Triples.{pattern, rdf_type}
 
 abbrev pub node_by : Option Shape → Parser Place
-node_by (Some s.Var) = places.Var <$> spelled
-node_by (Some s.Blank) = places.Blank <$> spelled
+node_by (Some s.Var) = places.Var <$> spelled_value
+node_by (Some s.Blank) = places.Blank <$> spelled_value
 node_by o = places.Term <$> term
 
 unfoldable pub node : Parser Place
 node = peek >>= node_by
 
 abbrev pub verb_by : Option Shape → Parser Place
-verb_by (Some s.Var) = places.Var <$> spelled
-verb_by (Some s.Iri) = (λ iri. places.Term (terms.Iri iri)) <$> spelled
+verb_by (Some s.Var) = places.Var <$> spelled_value
+verb_by (Some s.Iri) = (λ iri. places.Term (terms.Iri iri)) <$> spelled_value
 verb_by (Some s.IsA) = take >> pure (places.Term (terms.Iri rdf_type))
 verb_by o = refuse
 

@@ -6,7 +6,7 @@ use Rattle.term_core.specs.declared.term.Term.{Term}
 use Rattle.sparql_tree.specs.Groups.{Element, Values}
 use Rattle.sparql_tree.specs.declared.symbol.Shape.{Shape}
 use Rattle.sparql_tree.specs.declared.symbol.Shape.TheVariants as s
-use Rattle.sparql_grammar.specs.Parser.{Parser, ◌>>=◌, ◌>>◌, ◌<<◌, ◌<$>◌, pure, refuse, peek, take, spelled, all_more, open_brace, close_brace, close_paren}
+use Rattle.sparql_grammar.specs.Parser.{Parser, ◌>>=◌, ◌>>◌, ◌<<◌, ◌<$>◌, pure, refuse, peek, take, spelled_value, all_more, open_brace, close_brace, close_paren}
 use Rattle.sparql_grammar.specs.TermReading.{term}
 use Rattle.sparql_tree.specs.Values.{with_cell}
 
@@ -34,7 +34,7 @@ unfoldable pub one_rows : List Name → Parser (List Row)
 one_rows variables = all_more (one_turn variables) []
 
 abbrev pub names_turn : Option Shape → Option (Parser Name)
-names_turn (Some s.Var) = Some spelled
+names_turn (Some s.Var) = Some spelled_value
 names_turn o = None
 
 unfoldable pub names : Parser (List Name)
@@ -56,7 +56,7 @@ unfoldable pub full : Parser Element
 full = names >>= (λ variables. close_paren >> (open_brace >> (full_rows variables >>= (λ rows. close_brace >> pure (Values variables rows)))))
 
 abbrev pub values_by : Option Shape → Parser Element
-values_by (Some s.Var) = spelled >>= (λ name. one name)
+values_by (Some s.Var) = spelled_value >>= (λ name. one name)
 values_by (Some s.Open) = take >> full
 values_by o = refuse
 

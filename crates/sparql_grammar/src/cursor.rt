@@ -63,9 +63,9 @@ impl<'a> Cursor<'a> {
     }
 
     /// The bytes of the next symbol's value; none where no symbol is left.
-    #[tactic(auto, unfolding(crate::specs::Parser::value))]
+    #[tactic(auto, unfolding(crate::specs::Parser::first_value))]
     pub fn word(&self) -> &'a [u8]
-        ensures { result.now ≡ spec.value self.now }
+        ensures { result.now ≡ spec.first_value self.now }
     {
         if self.left.is_empty() {
             &[]
@@ -75,9 +75,9 @@ impl<'a> Cursor<'a> {
     }
 
     /// A copy of the next symbol's value.
-    #[tactic(auto, unfolding(crate::specs::Parser::value))]
+    #[tactic(auto, unfolding(crate::specs::Parser::first_value))]
     pub fn value(&self, alloc: Global) -> Result<Text, Memory>
-        ensures { IfOk result (λ text. text ≡ spec.value self.now) }
+        ensures { IfOk result (λ text. text ≡ spec.first_value self.now) }
     {
         if self.left.is_empty() {
             Text::from_str(alloc, "")
@@ -88,7 +88,7 @@ impl<'a> Cursor<'a> {
 
     /// Goes past the next symbol, and gives its value.
     pub fn take(&mut self, alloc: Global) -> Result<Text, Memory>
-        ensures value { IfOk result (λ text. text ≡ spec.value self.old) }
+        ensures value { IfOk result (λ text. text ≡ spec.first_value self.old) }
         ensures moved { IfOk result (λ text. self.new ≡ spec.next self.old) }
     {
         let text = self.value(alloc)?;

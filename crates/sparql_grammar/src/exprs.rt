@@ -481,9 +481,9 @@ fn bound(alloc: Global, cursor: &mut Cursor<'_>) -> Result<Expr, Fault>
 }
 
 /// `DISTINCT` or nothing.
-#[tactic(auto, unfolding(crate::specs::ExprReading::distinct))]
+#[tactic(auto, unfolding(crate::specs::ExprReading::distinct_or_all))]
 fn distinct(cursor: &mut Cursor<'_>) -> Result<bool, Fault>
-    ensures { Reads same (spec.distinct cursor.old) result cursor.new }
+    ensures { Reads same (spec.distinct_or_all cursor.old) result cursor.new }
 {
     match cursor.peek() {
         Some(Shape::Distinct) => {

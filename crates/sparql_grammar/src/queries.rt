@@ -7,7 +7,7 @@ ghost use Rattle.sparql_tree.specs.ExprTrees.{tree_of, trees_of};
 ghost use Rattle.sparql_tree.specs.GroupTrees.{group_of, item_of, key_of, order_of};
 ghost use Rattle.sparql_tree.specs.Queries as grammar;
 ghost use Rattle.sparql_grammar.specs.QueryReading as spec;
-ghost use Rattle.sparql_grammar.specs.Counts.{below, counted};
+ghost use Rattle.sparql_grammar.specs.Counts.{below_64_bits, count_of_digits};
 ghost use Rattle.sparql_grammar.specs.Reads.{Reads, same, nothing};
 ghost use Rattle.sparql_grammar.specs.Written.{selection_of, slice_of, written_of};
 
@@ -121,7 +121,7 @@ fn are_digits(text: &[u8]) -> bool
 /// The number that a digit writes behind those of `n`, if it is below 2^64.
 fn digit_after(n: u64, digit: u8) -> Option<u64>
     requires { is_digit digit ≡ true }
-    ensures { result ≡ below (n * 10 + (digit - 48)) }
+    ensures { result ≡ below_64_bits (n * 10 + (digit - 48)) }
 {
     n.checked_mul(10)?.checked_add((digit - b'0') as u64)
 }
@@ -129,7 +129,7 @@ fn digit_after(n: u64, digit: u8) -> Option<u64>
 /// The number that digits write, if it is below 2^64.
 fn value(digits: &[u8]) -> Option<u64>
     requires { are_digits digits.now ≡ true }
-    ensures { result ≡ below (value_after 0 digits.now) }
+    ensures { result ≡ below_64_bits (value_after 0 digits.now) }
 {
     let mut n = 0;
     for digit in digits {
@@ -140,7 +140,7 @@ fn value(digits: &[u8]) -> Option<u64>
 
 /// The number of a text of digits, if it is below 2^64; none of any other text.
 fn counted(text: &[u8]) -> Option<u64>
-    ensures { result ≡ counted text.now }
+    ensures { result ≡ count_of_digits text.now }
 {
     if are_digits(text) { value(text) } else { None }
 }

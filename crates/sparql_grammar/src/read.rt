@@ -5,7 +5,7 @@ ghost use Rattle.sparql_tree.specs.declared.symbol.Symbol.{Symbol};
 ghost use Rattle.sparql_tree.specs.Groups as tree;
 ghost use Rattle.sparql_tree.specs.GroupTrees.{item_of, query_of};
 ghost use Rattle.sparql_tree.specs.Queries.{IsQuery, variables, with_item, with_items, without_repeats};
-ghost use Rattle.sparql_grammar.specs.Refusals.{WhyNone};
+ghost use Rattle.sparql_grammar.specs.Refusals.{WhyNoQuery};
 ghost use Rattle.sparql_grammar.specs.Written.{written_of};
 ghost use Rattle.sparql_tree.specs.NameSets.{HasNames};
 
@@ -82,7 +82,7 @@ fn kept_query(alloc: Global, written: Written) -> Result<Query, Memory>
 /// for the look-up of selected variables in a tree.
 pub fn read_symbols(alloc: Global, symbols: &[Symbol]) -> Result<Query, QueryFault>
     ensures found { IfOk result (λ query. IsQuery symbols.now (query_of query)) }
-    ensures why { IfErr result (WhyNone symbols.now) }
+    ensures why { IfErr result (WhyNoQuery symbols.now) }
 {
     let mut cursor = Cursor::new(symbols);
     match query(alloc, &mut cursor, symbols.len() + 1) {

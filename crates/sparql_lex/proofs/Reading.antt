@@ -3,7 +3,7 @@ use Rattle.std.proofs.Common.{◌≡◌, ◌⊎◌, inl, inr, ℕ, suc, ◌+◌,
 use Rattle.term_core.specs.declared.token.Kind.{Kind}
 use Rattle.sparql_lex.specs.declared.state.State.{State}
 use Rattle.sparql_lex.specs.declared.state.State.TheVariants.{Start}
-use Rattle.sparql_lex.specs.Steps.{Row, first_of, kind_of, step}
+use Rattle.sparql_lex.specs.Steps.{Transition, first_of, kind_of, step}
 use Rattle.sparql_lex.specs.Scan.{Found, or_found, with_next, scan, longest}
 
 -- what the next state leads to, if there is one
@@ -17,7 +17,7 @@ reads [] state = kind_of state
 reads (c ∷ text) state = read_next (step state c) (λ next. reads text next)
 
 -- a fact of each test and the state to which it leads
-abbrev pub EachRow : (Bool → State → Type 0) → List Row → Type 0
+abbrev pub EachRow : (Bool → State → Type 0) → List Transition → Type 0
 EachRow P [] = Unit {0}
 EachRow P (row ∷ rows) = P row.0 row.1 × EachRow P rows
 
@@ -25,7 +25,7 @@ abbrev pub Leads : List ℕ → Kind → Type 0 → Bool → State → Type 0
 Leads text kind Goal test state = test ≡ true → reads text state ≡ Some kind → Goal
 
 -- what was read went by one of the rows
-pub read-cases : (rows : List Row) (text : List ℕ) (kind : Kind) (Goal : Type 0) → EachRow (Leads text kind Goal) rows
+pub read-cases : (rows : List Transition) (text : List ℕ) (kind : Kind) (Goal : Type 0) → EachRow (Leads text kind Goal) rows
     → read_next (first_of rows) (λ next. reads text next) ≡ Some kind → Goal
 read-cases [] text kind Goal each h = absurd (cc)
 read-cases (row ∷ rows) text kind Goal each h = go row.0 (each.0) (read-cases rows text kind Goal each.1) h
@@ -36,11 +36,11 @@ read-cases (row ∷ rows) text kind Goal each h = go row.0 (each.0) (read-cases 
     go false here later h = later h
 
 -- the row whose test holds first
-pub first-row : (t : Bool) (state : State) (rows : List Row) (text : List ℕ) → t ≡ true
+pub first-row : (t : Bool) (state : State) (rows : List Transition) (text : List ℕ) → t ≡ true
     → read_next (first_of ((t, state) ∷ rows)) (λ next. reads text next) ≡ reads text state
 first-row t state rows text e = rw e refl
 
-pub later-row : (t : Bool) (state : State) (rows : List Row) (text : List ℕ) → t ≡ false
+pub later-row : (t : Bool) (state : State) (rows : List Transition) (text : List ℕ) → t ≡ false
     → read_next (first_of ((t, state) ∷ rows)) (λ next. reads text next) ≡ read_next (first_of rows) (λ next. reads text next)
 later-row t state rows text e = rw e refl
 

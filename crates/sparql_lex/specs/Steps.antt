@@ -57,15 +57,15 @@ kind_of (states.Quoted (quoted.End kind)) = Some kind
 kind_of (states.Quoted _) = None
 
 -- a test, and the state to which it leads
-abbrev pub Row : Type 0
-Row = Bool × State
+abbrev pub Transition : Type 0
+Transition = Bool × State
 
 -- where the first of the tests that holds leads
-abbrev pub first_of : List Row → Option State
+abbrev pub first_of : List Transition → Option State
 first_of [] = None
 first_of (row ∷ rows) = cond row.0 (Some row.1) (first_of rows)
 
-abbrev pub start_rows : ℕ → List Row
+abbrev pub start_rows : ℕ → List Transition
 start_rows c = (is_letter c, states.Name names.Word) ∷ (is_pn_base c, states.Name names.Prefix)
     ∷ (is_digit c, states.Number numbers.Integer)
     ∷ (c == 58, states.Name names.Colon) ∷ (c == 95, states.Label labels.Underscore)
@@ -76,23 +76,23 @@ start_rows c = (is_letter c, states.Name names.Word) ∷ (is_pn_base c, states.N
     ∷ (is_among (codes "!>") c, states.Mark (marks.First true 61))
     ∷ (is_among (codes "{}()[],;=+-*/") c, states.Mark marks.End) ∷ []
 
-abbrev pub mark_rows : Mark → ℕ → List Row
+abbrev pub mark_rows : Mark → ℕ → List Transition
 mark_rows (marks.First alone second) c = (c == second, states.Mark marks.End) ∷ []
 mark_rows marks.End c = []
 
 -- in a prefix, and behind a dot in it
-abbrev pub prefix_rows : ℕ → List Row
+abbrev pub prefix_rows : ℕ → List Transition
 prefix_rows c = (is_pn c, states.Name names.Prefix) ∷ (c == 46, states.Name names.PrefixDot) ∷ []
 
 -- an escape in a local name
-abbrev pub escape_rows : ℕ → List Row
+abbrev pub escape_rows : ℕ → List Transition
 escape_rows c = (c == 37, states.Name names.Percent) ∷ (c == 92, states.Name names.Backslash) ∷ []
 
 -- in a local name, and behind a dot in it
-abbrev pub local_rows : ℕ → List Row
+abbrev pub local_rows : ℕ → List Transition
 local_rows c = (is_local_part c, states.Name names.Local) ∷ (c == 46, states.Name names.LocalDot) ∷ escape_rows c
 
-abbrev pub name_rows : Name → ℕ → List Row
+abbrev pub name_rows : Name → ℕ → List Transition
 name_rows names.Word c = (is_word_part c, states.Name names.Word) ∷ (c == 58, states.Name names.Colon) ∷ prefix_rows c
 name_rows names.Prefix c = (c == 58, states.Name names.Colon) ∷ prefix_rows c
 name_rows names.PrefixDot c = prefix_rows c
@@ -103,19 +103,19 @@ name_rows names.Percent c = (is_hex c, states.Name names.PercentDigit) ∷ []
 name_rows names.PercentDigit c = (is_hex c, states.Name names.Local) ∷ []
 name_rows names.Backslash c = (is_local_escape c, states.Name names.Local) ∷ []
 
-abbrev pub label_rows : Label → ℕ → List Row
+abbrev pub label_rows : Label → ℕ → List Transition
 label_rows labels.Underscore c = (c == 58, states.Label labels.Colon) ∷ []
 label_rows labels.Colon c = (is_query_label_first c, states.Label labels.Part) ∷ []
 label_rows _ c = (is_pn c, states.Label labels.Part) ∷ (c == 46, states.Label labels.Dot) ∷ []
 
-abbrev pub variable_rows : Variable → ℕ → List Row
+abbrev pub variable_rows : Variable → ℕ → List Transition
 variable_rows variables.Part c = (is_variable_part c, states.Variable variables.Part) ∷ []
 variable_rows _ c = (is_query_label_first c, states.Variable variables.Part) ∷ []
 
 abbrev pub is_exponent : ℕ → Bool
 is_exponent c = is_among (codes "eE") c
 
-abbrev pub number_rows : Number → ℕ → List Row
+abbrev pub number_rows : Number → ℕ → List Transition
 number_rows numbers.Dot c = (is_digit c, states.Number numbers.Decimal) ∷ []
 number_rows numbers.Integer c = (is_digit c, states.Number numbers.Integer) ∷ (c == 46, states.Number numbers.Point)
     ∷ (is_exponent c, states.Number numbers.Exponent) ∷ []
@@ -125,7 +125,7 @@ number_rows numbers.ExponentSign c = (is_digit c, states.Number numbers.Double) 
 number_rows numbers.Double c = (is_digit c, states.Number numbers.Double) ∷ []
 number_rows _ c = (is_digit c, states.Number numbers.Decimal) ∷ (is_exponent c, states.Number numbers.Exponent) ∷ []
 
-abbrev pub tag_rows : Tag → ℕ → List Row
+abbrev pub tag_rows : Tag → ℕ → List Transition
 tag_rows tags.At c = (is_letter c, states.Tag tags.Primary) ∷ []
 tag_rows tags.Primary c = (is_letter c, states.Tag tags.Primary) ∷ (c == 45, states.Tag tags.Hyphen) ∷ []
 tag_rows tags.Hyphen c = (is_alphanumeric c, states.Tag tags.Subtag) ∷ []
@@ -144,20 +144,20 @@ abbrev pub end_of : Kind → State
 end_of kind = states.Quoted (quoted.End kind)
 
 -- between < and >
-abbrev pub iri_rows : ℕ → List Row
+abbrev pub iri_rows : ℕ → List Transition
 iri_rows c = (is_iri c, inside bodies.Iri) ∷ (c == 62, end_of kinds.Iri) ∷ (c == 92, behind_backslash bodies.Iri) ∷ []
 
 -- in a long string: the state behind a quote is given
-abbrev pub long_rows : ℕ → State → ℕ → List Row
+abbrev pub long_rows : ℕ → State → ℕ → List Transition
 long_rows quote behind c = (is_long_plain quote c, inside (bodies.Long quote)) ∷ (c == quote, behind)
     ∷ (c == 92, behind_backslash (bodies.Long quote)) ∷ []
 
 -- in a string between two quotes: the state behind a quote is given
-abbrev pub short_rows : ℕ → State → ℕ → List Row
+abbrev pub short_rows : ℕ → State → ℕ → List Transition
 short_rows quote behind c = (is_plain_in quote c, inside (bodies.Short quote)) ∷ (c == quote, behind)
     ∷ (c == 92, behind_backslash (bodies.Short quote)) ∷ []
 
-abbrev pub inside_rows : Body → ℕ → List Row
+abbrev pub inside_rows : Body → ℕ → List Transition
 inside_rows bodies.Iri c = iri_rows c
 inside_rows (bodies.Short quote) c = short_rows quote (end_of kinds.String) c
 inside_rows (bodies.Long quote) c = long_rows quote (states.Quoted (quoted.OneInside quote)) c
@@ -180,7 +180,7 @@ with_digit value c = value * 16 + digit_value c
 abbrev pub is_next : ℕ → ℕ → Bool
 is_next value c = is_hex c && nat_lt value 0x110000
 
-abbrev pub quoted_rows : Quoted → ℕ → List Row
+abbrev pub quoted_rows : Quoted → ℕ → List Transition
 quoted_rows quoted.Less c = (c == 61, states.Quoted quoted.LessEqual) ∷ iri_rows c
 quoted_rows quoted.LessEqual c = iri_rows c
 quoted_rows (quoted.Quote quote) c = short_rows quote (states.Quoted (quoted.TwoQuotes quote)) c
@@ -196,7 +196,7 @@ quoted_rows (quoted.Digits body left value) c =
     ∷ ((is_next value c && not (nat_lt 1 left)) && may_spell body (with_digit value c), inside body) ∷ []
 quoted_rows (quoted.End kind) c = []
 
-abbrev pub rows : State → ℕ → List Row
+abbrev pub rows : State → ℕ → List Transition
 rows states.Start c = start_rows c
 rows (states.Mark mark) c = mark_rows mark c
 rows (states.Name name) c = name_rows name c

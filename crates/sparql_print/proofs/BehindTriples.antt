@@ -7,13 +7,13 @@ use Rattle.term_core.specs.declared.term.Term.{Term}
 use Rattle.sparql_tree.specs.Groups.{Element}
 use Rattle.sparql_tree.specs.declared.symbol.Shape.{Shape}
 use Rattle.sparql_tree.specs.declared.symbol.Symbol.{Symbol}
-use Rattle.sparql_tree.specs.Heads.{Holds}
+use Rattle.sparql_tree.specs.Heads.{IsHead}
 use Rattle.sparql_tree.specs.Triples.{IsNode, node_variable, node_blank, node_term, IsVerb, verb_variable, verb_iri, verb_a, ObjectTail, object_end, object_more, IsObjects, objects, PropertyTail, property_end, property_none, property_more, IsSame, same, IsBlock, block_one, block_point, block_more, IsTriples, no_triples, triples}
 use Rattle.sparql_tree.specs.Values.{IsCell, cell_term, cell_undef, IsRow, row_end, row_more, OneRows, one_end, one_more, IsNames, names_end, names_more, FullRows, full_end, full_more, IsValues, values_one, values_full}
 use Rattle.sparql_print.specs.SpelledSymbols.{AreSpelledSymbols}
 use Rattle.sparql_print.proofs.SpelledExprs.{is-rest, holds-value, term-spelled}
 
-pub holds-rest : {shape : Shape} {value : List ℕ} {ts rest : List Symbol} → Holds shape value ts rest → AreSpelledSymbols ts → AreSpelledSymbols rest
+pub holds-rest : {shape : Shape} {value : List ℕ} {ts rest : List Symbol} → IsHead shape value ts rest → AreSpelledSymbols ts → AreSpelledSymbols rest
 holds-rest i k = (holds-value i k).1
 
 -- ---- triples

@@ -7,7 +7,7 @@ use Rattle.sparql_tree.specs.declared.symbol.Shape.TheVariants as s
 use Rattle.sparql_tree.specs.declared.symbol.Symbol.{Symbol}
 use Rattle.sparql_tree.specs.Symbols.{bare}
 use Rattle.nt_text.proofs.WrittenText.{text_small, text_both}
-use Rattle.sparql_print.specs.ExprText.{expr_text, expr_texts, operands_text, spaced, in_parens, behind, joined, list_text, op_text, in_text, sum_sign, product_sign, function_text, aggregate_text, distinct_text}
+use Rattle.sparql_print.specs.ExprText.{expr_text, expr_texts, operands_text, spaced, in_parens, put_behind, separated, list_text, op_text, in_text, sum_sign, product_sign, function_text, aggregate_text, distinct_text}
 use Rattle.sparql_print.proofs.ExprSymbols.{expr_symbols, joined_symbols, more_symbols, operand_symbols, op_shape, in_symbols, sum_shape, product_shape, distinct_symbols}
 use Rattle.sparql_print.specs.Spelled.{AreSpelledIn, AreSpelledInAll, AreSpelledInOperands}
 use Rattle.sparql_print.proofs.Separate.{Separate}
@@ -49,7 +49,7 @@ then-shown a b f g h t = record {
 
 -- a sign and a text, each behind a space, before a tail
 tail-more : (sign a b : List ℕ) (shape : Shape) (f g : Adds) → IsShown sign (λ ss. bare shape ∷ ss) → IsShown a f → IsTail b g
-    → IsTail (behind sign a ++ b) (λ ss. bare shape ∷ f (g ss))
+    → IsTail (put_behind sign a ++ b) (λ ss. bare shape ∷ f (g ss))
 tail-more sign a b shape f g of_sign h t =
     tail-of (spaced sign a ++ b) (λ ss. bare shape ∷ f (g ss)) (then-shown (spaced sign a) b (λ ss. bare shape ∷ f ss) g (spaced-shown of_sign h) t)
 
@@ -92,8 +92,8 @@ mutual
   pub expr-shown : (a : Expr) → AreSpelledIn a → IsShown (expr_text a) (λ ss. expr_symbols a ss)
   expr-shown (Var name) h = name-shown name h
   expr-shown (Const term) h = constant-shown term h
-  expr-shown (Or parts) h = in_parens-shown (joined (codes "||") (expr_texts parts)) (λ ss. joined_symbols s.Or parts ss) (joined-shown (codes "||") s.Or or-shown parts h)
-  expr-shown (And parts) h = in_parens-shown (joined (codes "&&") (expr_texts parts)) (λ ss. joined_symbols s.And parts ss) (joined-shown (codes "&&") s.And and-shown parts h)
+  expr-shown (Or parts) h = in_parens-shown (separated (codes "||") (expr_texts parts)) (λ ss. joined_symbols s.Or parts ss) (joined-shown (codes "||") s.Or or-shown parts h)
+  expr-shown (And parts) h = in_parens-shown (separated (codes "&&") (expr_texts parts)) (λ ss. joined_symbols s.And parts ss) (joined-shown (codes "&&") s.And and-shown parts h)
   expr-shown (Not value) h = unary-shown (codes "!") (expr_text value) s.Bang (λ ss. expr_symbols value ss) bang-shown (expr-shown value h)
   expr-shown (Plus value) h = unary-shown (codes "+") (expr_text value) s.Plus (λ ss. expr_symbols value ss) plus-shown (expr-shown value h)
   expr-shown (Minus value) h = unary-shown (codes "-") (expr_text value) s.Minus (λ ss. expr_symbols value ss) minus-shown (expr-shown value h)
@@ -120,21 +120,21 @@ mutual
   list-shown : (items : Exprs) → AreSpelledInAll items → IsShown (list_text (expr_texts items)) (λ ss. bare s.Open ∷ joined_symbols s.Comma items (bare s.Close ∷ ss))
   list-shown EndOfExprs h = spaced-shown open-shown close-shown
   list-shown (ThenExpr first rest) h =
-      chain-shown (expr_text first) (flat_map (behind (codes ",")) (expr_texts rest)) (λ ss. expr_symbols first ss) (λ ss. more_symbols s.Comma rest ss)
+      chain-shown (expr_text first) (flat_map (put_behind (codes ",")) (expr_texts rest)) (λ ss. expr_symbols first ss) (λ ss. more_symbols s.Comma rest ss)
       (expr-shown first h.0) (more-shown (codes ",") s.Comma comma-shown rest h.1)
 
   joined-shown : (sign : List ℕ) (shape : Shape) → IsShown sign (λ ss. bare shape ∷ ss) → (parts : Exprs) → AreSpelledInAll parts
-      → IsShown (joined sign (expr_texts parts)) (λ ss. joined_symbols shape parts ss)
+      → IsShown (separated sign (expr_texts parts)) (λ ss. joined_symbols shape parts ss)
   joined-shown sign shape of_sign EndOfExprs h = no_tail.shown
   joined-shown sign shape of_sign (ThenExpr first rest) h =
-      then-shown (expr_text first) (flat_map (behind sign) (expr_texts rest)) (λ ss. expr_symbols first ss) (λ ss. more_symbols shape rest ss)
+      then-shown (expr_text first) (flat_map (put_behind sign) (expr_texts rest)) (λ ss. expr_symbols first ss) (λ ss. more_symbols shape rest ss)
       (expr-shown first h.0) (more-shown sign shape of_sign rest h.1)
 
   more-shown : (sign : List ℕ) (shape : Shape) → IsShown sign (λ ss. bare shape ∷ ss) → (parts : Exprs) → AreSpelledInAll parts
-      → IsTail (flat_map (behind sign) (expr_texts parts)) (λ ss. more_symbols shape parts ss)
+      → IsTail (flat_map (put_behind sign) (expr_texts parts)) (λ ss. more_symbols shape parts ss)
   more-shown sign shape of_sign EndOfExprs h = no_tail
   more-shown sign shape of_sign (ThenExpr first rest) h =
-      tail-more sign (expr_text first) (flat_map (behind sign) (expr_texts rest)) shape (λ ss. expr_symbols first ss) (λ ss. more_symbols shape rest ss)
+      tail-more sign (expr_text first) (flat_map (put_behind sign) (expr_texts rest)) shape (λ ss. expr_symbols first ss) (λ ss. more_symbols shape rest ss)
       of_sign (expr-shown first h.0) (more-shown sign shape of_sign rest h.1)
 
   operands-shown : (text : Bool → List ℕ) (shape : Bool → Shape) → ((inverse : Bool) → IsShown (text inverse) (λ ss. bare (shape inverse) ∷ ss)) → (rest : Operands)

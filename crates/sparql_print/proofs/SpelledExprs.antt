@@ -7,7 +7,7 @@ use Rattle.term_core.specs.declared.term.Term.{Term}
 use Rattle.sparql_tree.specs.Exprs.{Expr, exprs, operands}
 use Rattle.sparql_tree.specs.declared.symbol.Shape.{Shape}
 use Rattle.sparql_tree.specs.declared.symbol.Symbol.{Symbol}
-use Rattle.sparql_tree.specs.Heads.{Is, is, Holds, holds}
+use Rattle.sparql_tree.specs.Heads.{Is, is, IsHead, holds}
 use Rattle.term_core.specs.Texts.{xsd_boolean}
 use Rattle.sparql_tree.specs.Terms.{IsNumber, integer, decimal, IsTerm}
 use Rattle.sparql_tree.specs.Terms as terms_of
@@ -22,7 +22,7 @@ use Rattle.sparql_print.specs.SpelledSymbols.{IsSpelledValue, AreSpelledSymbols}
 pub is-rest : {shape : Shape} {ts rest : List Symbol} → Is shape ts rest → AreSpelledSymbols ts → AreSpelledSymbols rest
 is-rest is k = k.1
 
-pub holds-value : {shape : Shape} {value : List ℕ} {ts rest : List Symbol} → Holds shape value ts rest → AreSpelledSymbols ts → IsSpelledValue shape value × AreSpelledSymbols rest
+pub holds-value : {shape : Shape} {value : List ℕ} {ts rest : List Symbol} → IsHead shape value ts rest → AreSpelledSymbols ts → IsSpelledValue shape value × AreSpelledSymbols rest
 holds-value holds k = k
 
 utf8-both : (sign digits : List ℕ) → IsTextOf sign sign → IsUtf8 digits → IsUtf8 (sign ++ digits)

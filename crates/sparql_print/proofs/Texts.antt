@@ -9,7 +9,7 @@ use Rattle.sparql_tree.specs.ExprTrees.{tree_of, trees_of, signs_of, factors_of}
 use Rattle.sparql_tree.specs.declared.expr.Expr.{Expr}
 use Rattle.sparql_tree.specs.declared.expr.Signed.{Signed}
 use Rattle.sparql_tree.specs.declared.expr.Factor.{Factor}
-use Rattle.sparql_print.specs.ExprText.{expr_text, expr_texts, operands_text, joined, behind, list_text, in_parens, spaced, sum_sign, product_sign}
+use Rattle.sparql_print.specs.ExprText.{expr_text, expr_texts, operands_text, separated, put_behind, list_text, in_parens, spaced, sum_sign, product_sign}
 use Rattle.sparql_print.specs.Pieces.{between}
 
 -- the text of a part
@@ -18,10 +18,10 @@ part_text part = expr_text (tree_of part)
 
 -- a summand and a factor behind their signs
 abbrev pub signed_text : Signed → List ℕ
-signed_text signed = behind (sum_sign signed.minus) (expr_text (tree_of signed.value))
+signed_text signed = put_behind (sum_sign signed.minus) (expr_text (tree_of signed.value))
 
 abbrev pub factor_text : Factor → List ℕ
-factor_text factor = behind (product_sign factor.divide) (expr_text (tree_of factor.value))
+factor_text factor = put_behind (product_sign factor.divide) (expr_text (tree_of factor.value))
 
 pub texts_are : (parts : List Expr) → expr_texts (tree.exprs (trees_of parts)) ≡ map part_text parts
 unfolding expr_texts
@@ -40,16 +40,16 @@ factors_are (first ∷ rest) = ap (λ t. factor_text first ++ t) (factors_are re
 
 -- what stands so far
 abbrev pub so_far : List ℕ → List Expr → List ℕ
-so_far sign parts = joined sign (map part_text parts)
+so_far sign parts = separated sign (map part_text parts)
 
-behind_all : (sign : List ℕ) (xs : List (List ℕ)) (x : List ℕ) → flat_map (behind sign) (xs ++ x ∷ []) ≡ flat_map (behind sign) xs ++ ((32 ∷ (sign ++ 32 ∷ [])) ++ x)
-behind_all sign [] x = append-nil (behind sign x) ∙ ap (λ t. 32 ∷ t) (sym (append_assoc sign (32 ∷ []) x))
-behind_all sign (y ∷ xs) x = ap (λ t. behind sign y ++ t) (behind_all sign xs x) ∙ sym (append_assoc (behind sign y) (flat_map (behind sign) xs) ((32 ∷ (sign ++ 32 ∷ [])) ++ x))
+behind_all : (sign : List ℕ) (xs : List (List ℕ)) (x : List ℕ) → flat_map (put_behind sign) (xs ++ x ∷ []) ≡ flat_map (put_behind sign) xs ++ ((32 ∷ (sign ++ 32 ∷ [])) ++ x)
+behind_all sign [] x = append-nil (put_behind sign x) ∙ ap (λ t. 32 ∷ t) (sym (append_assoc sign (32 ∷ []) x))
+behind_all sign (y ∷ xs) x = ap (λ t. put_behind sign y ++ t) (behind_all sign xs x) ∙ sym (append_assoc (put_behind sign y) (flat_map (put_behind sign) xs) ((32 ∷ (sign ++ 32 ∷ [])) ++ x))
 
 -- one part more
-pub joined_more : (sign : List ℕ) (xs : List (List ℕ)) (x : List ℕ) → joined sign (xs ++ x ∷ []) ≡ joined sign xs ++ (between (length xs) sign ++ x)
+pub joined_more : (sign : List ℕ) (xs : List (List ℕ)) (x : List ℕ) → separated sign (xs ++ x ∷ []) ≡ separated sign xs ++ (between (length xs) sign ++ x)
 joined_more sign [] x = append-nil x
-joined_more sign (y ∷ xs) x = ap (λ t. y ++ t) (behind_all sign xs x) ∙ sym (append_assoc y (flat_map (behind sign) xs) ((32 ∷ (sign ++ 32 ∷ [])) ++ x))
+joined_more sign (y ∷ xs) x = ap (λ t. y ++ t) (behind_all sign xs x) ∙ sym (append_assoc y (flat_map (put_behind sign) xs) ((32 ∷ (sign ++ 32 ∷ [])) ++ x))
 
 -- a list without parts, and one with some
 pub list_empty : (items : List Expr) → length items ≡ 0 → list_text (expr_texts (tree.exprs (trees_of items))) ≡ codes "( )"
@@ -57,7 +57,7 @@ unfolding expr_texts
 list_empty [] none = refl
 list_empty (item ∷ items) none = absurd (omega arith)
 
-pub list_some : (items : List Expr) → 0 < length items → list_text (expr_texts (tree.exprs (trees_of items))) ≡ in_parens (joined (codes ",") (expr_texts (tree.exprs (trees_of items))))
+pub list_some : (items : List Expr) → 0 < length items → list_text (expr_texts (tree.exprs (trees_of items))) ≡ in_parens (separated (codes ",") (expr_texts (tree.exprs (trees_of items))))
 unfolding expr_texts
 list_some [] some = absurd (omega arith)
 list_some (item ∷ items) some = refl

@@ -18,18 +18,18 @@ abbrev pub in_parens : List ℕ → List ℕ
 in_parens text = spaced (codes "(") (spaced text (codes ")"))
 
 -- a sign and a text behind other texts
-abbrev pub behind : List ℕ → List ℕ → List ℕ
-behind sign text = 32 ∷ spaced sign text
+abbrev pub put_behind : List ℕ → List ℕ → List ℕ
+put_behind sign text = 32 ∷ spaced sign text
 
 -- texts with a sign between
-abbrev pub joined : List ℕ → List (List ℕ) → List ℕ
-joined sign [] = []
-joined sign (first ∷ rest) = first ++ flat_map (behind sign) rest
+abbrev pub separated : List ℕ → List (List ℕ) → List ℕ
+separated sign [] = []
+separated sign (first ∷ rest) = first ++ flat_map (put_behind sign) rest
 
 -- texts in parentheses, with commas between (SPARQL 1.1 19.8, ExpressionList)
 abbrev pub list_text : List (List ℕ) → List ℕ
 list_text [] = spaced (codes "(") (codes ")")
-list_text (first ∷ rest) = in_parens (joined (codes ",") (first ∷ rest))
+list_text (first ∷ rest) = in_parens (separated (codes ",") (first ∷ rest))
 
 -- the sign of a comparison (SPARQL 1.1 19.8, RelationalExpression)
 abbrev pub op_text : CompareOp → List ℕ
@@ -93,8 +93,8 @@ unfoldable mutual
   pub expr_text : Expr → List ℕ
   expr_text (Var name) = 63 ∷ name
   expr_text (Const term) = term_text term
-  expr_text (Or parts) = in_parens (joined (codes "||") (expr_texts parts))
-  expr_text (And parts) = in_parens (joined (codes "&&") (expr_texts parts))
+  expr_text (Or parts) = in_parens (separated (codes "||") (expr_texts parts))
+  expr_text (And parts) = in_parens (separated (codes "&&") (expr_texts parts))
   expr_text (Not value) = in_parens (spaced (codes "!") (expr_text value))
   expr_text (Plus value) = in_parens (spaced (codes "+") (expr_text value))
   expr_text (Minus value) = in_parens (spaced (codes "-") (expr_text value))
@@ -114,4 +114,4 @@ unfoldable mutual
   -- further operands, each behind its sign
   pub operands_text : (Bool → List ℕ) → Operands → List ℕ
   operands_text sign EndOfOperands = []
-  operands_text sign (ThenOperand inverse value rest) = behind (sign inverse) (expr_text value) ++ operands_text sign rest
+  operands_text sign (ThenOperand inverse value rest) = put_behind (sign inverse) (expr_text value) ++ operands_text sign rest

@@ -178,7 +178,7 @@ fn push_expr(out: &mut String, alloc: Global, e: &Expr) -> Result<(), Memory>
 #[cycle(print)]
 fn push_chain(out: &mut String, alloc: Global, sign: &str, parts: &[Expr]) -> Result<(), Memory>
     ensures { OnOk result (string_bytes out.new ≡ string_bytes out.old
-        ++ spec.in_parens (spec.joined sign.now (expr_texts (tree.exprs (trees_of parts.now))))) }
+        ++ spec.in_parens (spec.separated sign.now (expr_texts (tree.exprs (trees_of parts.now))))) }
 {
     push(out, "( ")?;
     push_joined(out, alloc, sign, parts)?;
@@ -190,7 +190,7 @@ fn push_chain(out: &mut String, alloc: Global, sign: &str, parts: &[Expr]) -> Re
 #[tactic(auto, using(crate::proofs::Texts::texts_are))]
 fn push_joined(out: &mut String, alloc: Global, sign: &str, parts: &[Expr]) -> Result<(), Memory>
     ensures { OnOk result (string_bytes out.new ≡ string_bytes out.old
-        ++ spec.joined sign.now (expr_texts (tree.exprs (trees_of parts.now)))) }
+        ++ spec.separated sign.now (expr_texts (tree.exprs (trees_of parts.now)))) }
 {
     for (i, part) in parts.iter().enumerate() {
         push_between(out, i, sign)?;

@@ -12,7 +12,7 @@ use Rattle.sparql_tree.specs.declared.symbol.Symbol.{Symbol}
 use Rattle.sparql_tree.specs.Symbols.{Lexeme, lexemes}
 use Rattle.sparql_tree.specs.Prologue.{prefixes_of}
 use Rattle.sparql_symbol.specs.Reading.{read_symbols, read_prologue}
-use Rattle.sparql_tree.specs.Refusals.{AreTokensOf, AreSymbols, IsRefused}
+use Rattle.sparql_tree.specs.Refusals.{AreTokensOf, AreSymbols, HasNoSymbols}
 use Rattle.sparql_tree.specs.Unsupported.{first_unsupported, deepest}
 use Rattle.sparql_symbol.proofs.Declarations.{prologue-is}
 use Rattle.sparql_symbol.proofs.Judged.{text-lexemes, tokens-of, rest-lexemes, symbols-spelled}
@@ -101,7 +101,7 @@ spelled-same text c ss h =
     ∙ ap deep-fault (not-deep (deepest h.ls) h.shallow))
 
 -- a refusal is that of the case
-refusal-is : (text : List ℕ) (c : Case text) (fault : QueryFault) → IsRefused text fault → fault-of text c ≡ Some fault
+refusal-is : (text : List ℕ) (c : Case text) (fault : QueryFault) → HasNoSymbols text fault → fault-of text c ≡ Some fault
 refusal-is text c (faults.TooLarge sizes.Text) h = long-is c
   where
     long-is : (c : Case text) → fault-of text c ≡ Some (faults.TooLarge sizes.Text)
@@ -123,18 +123,18 @@ refusal-is text c faults.NotAQuery h = absurd h
 refusal-is text c (faults.Scope variable) h = absurd h
 refusal-is text c faults.Memory h = absurd h
 
-pub one-refusal : (text : List ℕ) (a b : QueryFault) → IsRefused text a → IsRefused text b → a ≡ b
+pub one-refusal : (text : List ℕ) (a b : QueryFault) → HasNoSymbols text a → HasNoSymbols text b → a ≡ b
 one-refusal text a b h k =
     let both : some_fault a ≡ some_fault b = sym (refusal-is text (case-of text) a h) ∙ refusal-is text (case-of text) b k in cc
 
 -- symbols are those of a text that has no refusal
-pub not-both-answers : (text : List ℕ) (ss : List Symbol) (fault : QueryFault) → AreSymbols text ss → IsRefused text fault → ⊥
+pub not-both-answers : (text : List ℕ) (ss : List Symbol) (fault : QueryFault) → AreSymbols text ss → HasNoSymbols text fault → ⊥
 not-both-answers text ss fault h k =
     let both : some_fault fault ≡ None = sym (refusal-is text (case-of text) fault k) ∙ spelled-same text (case-of text) ss h in absurd cc
 
 -- one of both
 abbrev Answer : List ℕ → Type 0
-Answer text = ((ss : List Symbol) × AreSymbols text ss) ⊎ ((fault : QueryFault) × IsRefused text fault)
+Answer text = ((ss : List Symbol) × AreSymbols text ss) ⊎ ((fault : QueryFault) × HasNoSymbols text fault)
 
 pub some-answer : (text : List ℕ) → Answer text
 some-answer text = by_case (case-of text)

@@ -6,7 +6,7 @@ use Rattle.sparql_tree.specs.declared.fault.QueryFault.{QueryFault}
 use Rattle.sparql_tree.specs.declared.fault.QueryFault.TheVariants as faults
 use Rattle.sparql_tree.specs.Trees.{IsTree, HasNoTree, WhyNoTree}
 use Rattle.sparql_read.proofs.Texts as grammar
-use Rattle.sparql_tree.specs.Accepted.{IsAccepted, IsBroken, IsRefused, WhyRefused}
+use Rattle.sparql_tree.specs.Accepted.{IsAccepted, IsBroken, IsRefused, WhyQueryRefused}
 use Rattle.sparql_tree.specs.Breaches.{breaches, first_name}
 use Rattle.sparql_scope.proofs.Firsts.{first_none}
 
@@ -67,6 +67,6 @@ pub always : (text : List ℕ) → Answer text
 always text = by_tree text (grammar.always text)
 
 -- why there is no tree, is why a text is refused
-pub why_before : (text : List ℕ) (fault : QueryFault) → WhyNoTree text fault → WhyRefused text fault
+pub why_before : (text : List ℕ) (fault : QueryFault) → WhyNoTree text fault → WhyQueryRefused text fault
 why_before text (faults.Scope name) h = absurd h
 why_before text fault h = h

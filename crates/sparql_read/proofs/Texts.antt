@@ -5,12 +5,12 @@ use Rattle.sparql_tree.specs.declared.fault.QueryFault.{QueryFault}
 use Rattle.sparql_tree.specs.declared.fault.QueryFault.TheVariants as faults
 use Rattle.sparql_tree.specs.declared.symbol.Shape.{Shape}
 use Rattle.sparql_tree.specs.declared.symbol.Symbol.{Symbol}
-use Rattle.sparql_tree.specs.Refusals.{AreSymbols, IsRefused}
+use Rattle.sparql_tree.specs.Refusals.{AreSymbols, HasNoSymbols}
 use Rattle.sparql_read.proofs.Laws as symbols
 use Rattle.sparql_tree.specs.Heads.{head}
 use Rattle.sparql_tree.specs.Queries.{IsQuery, without_repeats}
 use Rattle.sparql_grammar.specs.QueryReading as r
-use Rattle.sparql_grammar.specs.Refusals.{WhyNone}
+use Rattle.sparql_grammar.specs.Refusals.{WhyNoQuery}
 use Rattle.sparql_tree.specs.Trees.{IsTree, SpellsNone, HasNoTree, WhyNoTree}
 use Rattle.sparql_grammar.proofs.Spelled.{query-spelled, none-spelled, more-left, one_query}
 
@@ -24,7 +24,7 @@ not-both text query faults.NotAQuery h k =
 not-both text query fault h k = symbols.not-both-answers text h.symbols fault h.are_symbols k
 
 -- nor has one whose symbols spell no query another refusal
-apart : (text : List ℕ) (fault : QueryFault) → SpellsNone text → IsRefused text fault → ⊥
+apart : (text : List ℕ) (fault : QueryFault) → SpellsNone text → HasNoSymbols text fault → ⊥
 apart text fault h k = symbols.not-both-answers text h.symbols fault h.are_symbols k
 
 pub one-refusal : (text : List ℕ) (a b : QueryFault) → HasNoTree text a → HasNoTree text b → a ≡ b
@@ -53,25 +53,25 @@ by-reading : (text : List ℕ) (ss : List Symbol) → AreSymbols text ss → Rea
 by-reading text ss h (inl q) = inl (q.0, record { symbols = ss; are_symbols = h; spelled = q.1 })
 by-reading text ss h (inr none) = inr (faults.NotAQuery, record { symbols = ss; are_symbols = h; none = none })
 
-refused : (text : List ℕ) (fault : QueryFault) → IsRefused text fault → HasNoTree text fault
+refused : (text : List ℕ) (fault : QueryFault) → HasNoSymbols text fault → HasNoTree text fault
 refused text faults.NotAQuery h = absurd h
 refused text fault h = h
 
 pub always : (text : List ℕ) → Answer text
 always text = by_answer (symbols.some-answer text)
   where
-    by_answer : ((ss : List Symbol) × AreSymbols text ss) ⊎ ((fault : QueryFault) × IsRefused text fault) → Answer text
+    by_answer : ((ss : List Symbol) × AreSymbols text ss) ⊎ ((fault : QueryFault) × HasNoSymbols text fault) → Answer text
     by_answer (inl s) = by-reading text s.0 s.1 (by-read s.0 (r.query (length s.0 + 1) s.0) refl)
     by_answer (inr f) = inr (f.0, refused text f.0 f.1)
 
 -- ---- the code's refusals
 
-why-fault : (text : List ℕ) (ss : List Symbol) (fault : QueryFault) → AreSymbols text ss → WhyNone ss fault → WhyNoTree text fault
+why-fault : (text : List ℕ) (ss : List Symbol) (fault : QueryFault) → AreSymbols text ss → WhyNoQuery ss fault → WhyNoTree text fault
 why-fault text ss faults.Memory h k = tt
 why-fault text ss faults.NotAQuery h k = record { symbols = ss; are_symbols = h; none = k }
 why-fault text ss fault h k = absurd k
 
 -- what refuses the symbols refuses their text
-pub why-refused : {A : Type 0} (text : List ℕ) (ss : List Symbol) (result : Result A QueryFault) → AreSymbols text ss → IfErr result (WhyNone ss) → IfErr result (WhyNoTree text)
+pub why-refused : {A : Type 0} (text : List ℕ) (ss : List Symbol) (result : Result A QueryFault) → AreSymbols text ss → IfErr result (WhyNoQuery ss) → IfErr result (WhyNoTree text)
 why-refused text ss (Ok a) h k = tt
 why-refused text ss (Err fault) h k = why-fault text ss fault h k

@@ -16,13 +16,13 @@ pub fn one_list_of_symbols()
 
 /// A text has at most one first cause that it has no symbols.
 pub fn one_cause_of_no_symbols()
-    ensures { (text : List ℕ) (a b : QueryFault) → front.IsRefused text a → front.IsRefused text b → a ≡ b }
+    ensures { (text : List ℕ) (a b : QueryFault) → front.HasNoSymbols text a → front.HasNoSymbols text b → a ≡ b }
 {}
 
 /// A text never has symbols and a cause of a refusal, and has always one of both.
 pub fn symbols_or_refusal()
-    ensures not_both { (text : List ℕ) (symbols : List Symbol) (fault : QueryFault) → AreSymbols text symbols → front.IsRefused text fault → ⊥ }
-    ensures always { (text : List ℕ) → ((symbols : List Symbol) × AreSymbols text symbols) ⊎ ((fault : QueryFault) × front.IsRefused text fault) }
+    ensures not_both { (text : List ℕ) (symbols : List Symbol) (fault : QueryFault) → AreSymbols text symbols → front.HasNoSymbols text fault → ⊥ }
+    ensures always { (text : List ℕ) → ((symbols : List Symbol) × AreSymbols text symbols) ⊎ ((fault : QueryFault) × front.HasNoSymbols text fault) }
 {}
 
 /// A text has at most one tree.

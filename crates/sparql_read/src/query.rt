@@ -2,7 +2,7 @@
 
 ghost use Rattle.std.specs.Prelude.{IfOk, IfErr};
 ghost use Rattle.sparql_tree.specs.GroupTrees.{query_of};
-ghost use Rattle.sparql_tree.specs.Accepted.{IsAccepted, WhyRefused};
+ghost use Rattle.sparql_tree.specs.Accepted.{IsAccepted, WhyQueryRefused};
 
 use crate::tree::read_tree;
 use sparql_scope::first_breach;
@@ -20,7 +20,7 @@ use std::alloc::Global;
 /// triple its own subject, but for look-ups of prefixes, variables and labels in a tree.
 pub fn read_query(alloc: Global, text: &[u8]) -> Result<Query, QueryFault>
     ensures found { IfOk result (λ query. IsAccepted text.now (query_of query)) }
-    ensures why { IfErr result (WhyRefused text.now) }
+    ensures why { IfErr result (WhyQueryRefused text.now) }
 {
     let query = read_tree(alloc, text)?;
     match first_breach(alloc, &query)? {

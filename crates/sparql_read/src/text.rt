@@ -1,7 +1,7 @@
 //! The symbols of a query's text.
 
 ghost use Rattle.std.specs.Prelude.{IfOk, IfErr};
-ghost use Rattle.sparql_tree.specs.Refusals.{AreSymbols, WhyNone};
+ghost use Rattle.sparql_tree.specs.Refusals.{AreSymbols, WhyNoSymbols};
 
 use sparql_lex::{LexFault, tokens};
 use sparql_symbol::symbols_of;
@@ -21,7 +21,7 @@ const TEXT_LIMIT: usize = 262_144;
 /// The time is linear in the bytes that are read and written out, but for the look-up of prefixes in a map.
 pub fn symbols(alloc: Global, text: &[u8]) -> Result<Items<Symbol>, QueryFault>
     ensures found { IfOk result (AreSymbols text.now) }
-    ensures why { IfErr result (WhyNone text.now) }
+    ensures why { IfErr result (WhyNoSymbols text.now) }
 {
     if text.len() > TEXT_LIMIT {
         return Err(QueryFault::TooLarge(Size::Text));

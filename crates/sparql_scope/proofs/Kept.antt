@@ -6,11 +6,11 @@ use Rattle.term_core.proofs.Merges.{names_same}
 use Rattle.term_core.specs.Patterns.{label_name}
 use Rattle.sparql_tree.specs.Groups.{Group, GroupOf, Elements, EndOfElements, ThenElement, Groups, EndOfGroups, ThenGroup, Element, Triples, Union, Optional, Filter, Bind, Values, Query}
 use Rattle.sparql_tree.specs.Groups as tree
-use Rattle.sparql_tree.specs.Breaches.{breach_if, star_name, is_grouped, item_breaches, breaches_behind, again, repeated, marks_at, marks_of, marks_of_group, marks_of_groups, mark_breaches, breaches}
+use Rattle.sparql_tree.specs.Breaches.{breach_if, star_name, is_grouped, item_breaches, breaches_behind, declared_again, repeated, marks_at, marks_of, marks_of_group, marks_of_groups, mark_breaches, breaches}
 use Rattle.sparql_tree.specs.Scopes.{scope_at}
 use Rattle.sparql_tree.specs.declared.mark.Mark.{Mark}
 use Rattle.sparql_tree.specs.declared.mark.Mark.TheVariants as marks
-use Rattle.sparql_scope.specs.Rules.{Differ, KeepsAt, KeepsBehind, Keeps, AllKeep, labels_from, labels_of_group, AreNew, AreApart}
+use Rattle.sparql_scope.specs.Rules.{Differ, KeepsAt, KeepsBehind, Keeps, AllKeep, labels_from, labels_of_group, AreNew, AreFresh}
 
 -- two lists that are none together
 both_none : {A : Type 0} (a b : List A) → a ++ b ≡ [] → (a ≡ []) × (b ≡ [])
@@ -38,15 +38,15 @@ parts_of (marks.Again name ∷ a) b h = absurd h
 
 -- ---- variables
 
-bind_new : (there : Bool) (variable : Name) → NoneAgain (again (breach_if there variable)) → there ≡ false
+bind_new : (there : Bool) (variable : Name) → NoneAgain (declared_again (breach_if there variable)) → there ≡ false
 bind_new true variable h = absurd h
 bind_new false variable h = refl
 
-one_new : (there : Bool) (first : Name) (more : List Name) → NoneAgain (again (breach_if there first ++ more)) → (there ≡ false) × NoneAgain (again more)
+one_new : (there : Bool) (first : Name) (more : List Name) → NoneAgain (declared_again (breach_if there first ++ more)) → (there ≡ false) × NoneAgain (declared_again more)
 one_new true first more h = absurd h
 one_new false first more h = (refl, h)
 
-all_differ : (before variables : List Name) → NoneAgain (again (repeated before variables)) → Differ before variables
+all_differ : (before variables : List Name) → NoneAgain (declared_again (repeated before variables)) → Differ before variables
 all_differ before [] h = tt
 all_differ before (first ∷ rest) h =
     let parts = one_new (has_name before first) first (repeated (before ++ first ∷ []) rest) h in
@@ -97,7 +97,7 @@ one_more : (before going : List Name) (name : Name) → AreNew before going → 
 one_more before [] name h e = (e, tt)
 one_more before (first ∷ rest) name h e = (h.0, one_more before rest name h.1 e)
 
-all_apart : (ended going : List Name) (ms : List Mark) → AreNew ended going → mark_breaches ended going ms ≡ [] → AreApart ended (labels_from going ms)
+all_apart : (ended going : List Name) (ms : List Mark) → AreNew ended going → mark_breaches ended going ms ≡ [] → AreFresh ended (labels_from going ms)
 all_apart ended going [] h e = (h, tt)
 all_apart ended going (marks.Edge ∷ rest) h e = (h, all_apart (ended ++ going) [] rest tt e)
 all_apart ended going (marks.Label name ∷ rest) h e =
@@ -117,5 +117,5 @@ marks_none q e =
 pub variables_new : (q : Query) → breaches q ≡ [] → Keeps q.body
 variables_new q e = group_keeps q.body (none_again [] [] (marks_of_group q.body) (marks_none q e))
 
-pub labels_apart : (q : Query) → breaches q ≡ [] → AreApart [] (labels_of_group q.body)
+pub labels_apart : (q : Query) → breaches q ≡ [] → AreFresh [] (labels_of_group q.body)
 labels_apart q e = all_apart [] [] (marks_of_group q.body) tt (marks_none q e)

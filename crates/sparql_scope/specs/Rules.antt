@@ -53,6 +53,6 @@ AreNew before [] = Unit {0}
 AreNew before (first ∷ rest) = (has_name before first ≡ false) × AreNew before rest
 
 -- no name of a list is one of these, or of a list before it
-abbrev pub AreApart : List Name → List (List Name) → Type 0
-AreApart before [] = Unit {0}
-AreApart before (first ∷ rest) = AreNew before first × AreApart (before ++ first) rest
+abbrev pub AreFresh : List Name → List (List Name) → Type 0
+AreFresh before [] = Unit {0}
+AreFresh before (first ∷ rest) = AreNew before first × AreFresh (before ++ first) rest

@@ -1,7 +1,7 @@
 //! Laws of the rules on scope. Each is the contract of a function that does nothing.
 
 ghost use Rattle.std.specs.Prelude.{◌≡◌, []};
-ghost use Rattle.sparql_scope.specs.Rules.{AreApart, Keeps, labels_of_group};
+ghost use Rattle.sparql_scope.specs.Rules.{AreFresh, Keeps, labels_of_group};
 ghost use Rattle.sparql_tree.specs.Breaches.{breaches};
 ghost use Rattle.sparql_tree.specs.Groups.{Query};
 
@@ -13,5 +13,5 @@ pub fn variables_are_new()
 
 /// In a query without a breach the labels of different basic graph patterns differ (SPARQL 1.1, section 19.6).
 pub fn labels_are_apart()
-    ensures { (q : Query) → breaches q ≡ [] → AreApart [] (labels_of_group q.body) }
+    ensures { (q : Query) → breaches q ≡ [] → AreFresh [] (labels_of_group q.body) }
 {}

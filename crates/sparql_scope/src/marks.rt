@@ -3,7 +3,7 @@
 ghost use Rattle.std.specs.Prelude.{◌≡◌, ◌++◌, map, flat_map, OnOk};
 ghost use Rattle.sparql_tree.specs.Breaches as spec;
 ghost use Rattle.sparql_scope.specs.Places.{AreLast};
-ghost use Rattle.sparql_tree.specs.Scopes.{labels_in, label_at, variables_in, variable_at};
+ghost use Rattle.sparql_tree.specs.Scopes.{labels_in, label_in, variables_in, variable_in};
 
 use crate::places::{Places, add_place};
 use sparql_tree::Mark;
@@ -12,7 +12,7 @@ use term_core::{Memory, Pattern, Place, Text};
 
 /// Adds the label of a place, if one stands there.
 fn mark_place(alloc: Global, place: &Place, marks: &mut Vec<Mark>) -> Result<(), Memory>
-    ensures { OnOk result (marks.new.items ≡ marks.old.items ++ map spec.label (label_at place.now)) }
+    ensures { OnOk result (marks.new.items ≡ marks.old.items ++ map spec.label (label_in place.now)) }
 {
     match place {
         Place::Blank(label) => Ok(marks.push(Mark::Label(label.copy(alloc)?))?),
@@ -36,7 +36,7 @@ pub fn mark_labels(alloc: Global, patterns: &[Pattern], marks: &mut Vec<Mark>) -
 /// Adds the variable of a place, if one stands there.
 fn add_at(alloc: Global, place: &Place, places: &mut Places) -> Result<(), Memory>
     requires last { AreLast places.old.last places.old.names }
-    ensures names { OnOk result (places.new.names ≡ places.old.names ++ variable_at place.now) }
+    ensures names { OnOk result (places.new.names ≡ places.old.names ++ variable_in place.now) }
     ensures last { OnOk result (AreLast places.new.last places.new.names) }
 {
     match place {
@@ -67,7 +67,7 @@ pub fn mark_again(
     name: &Text,
     marks: &mut Vec<Mark>,
 ) -> Result<(), Memory>
-    ensures { OnOk result (marks.new.items ≡ marks.old.items ++ spec.again (spec.breach_if there name.now)) }
+    ensures { OnOk result (marks.new.items ≡ marks.old.items ++ spec.declared_again (spec.breach_if there name.now)) }
 {
     if there {
         marks.push(Mark::Again(name.copy(alloc)?))?;
@@ -77,7 +77,7 @@ pub fn mark_again(
 
 /// Adds variables that are there already.
 pub fn mark_all(alloc: Global, names: &[Text], marks: &mut Vec<Mark>) -> Result<(), Memory>
-    ensures { OnOk result (marks.new.items ≡ marks.old.items ++ spec.again names.now) }
+    ensures { OnOk result (marks.new.items ≡ marks.old.items ++ spec.declared_again names.now) }
 {
     for name in names {
         marks.push(Mark::Again(name.copy(alloc)?))?;

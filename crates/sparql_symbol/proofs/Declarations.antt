@@ -10,7 +10,7 @@ use Rattle.term_core.specs.declared.token.Kind.TheVariants as kinds
 use Rattle.sparql_tree.specs.Words.{is_word}
 use Rattle.sparql_tree.specs.Symbols.{Lexeme}
 use Rattle.sparql_tree.specs.Prologue.{Declaration, IsPrefixName, IsAbsolute, IsDeclaration, NoDeclaration, IsPrologue, ended, declared}
-use Rattle.sparql_symbol.specs.Reading.{is_prefix_word, prefix_before, prefix_at, declared_prefix, absolute_iri, declared_by, declaration_at, with_first, read_prologue, before_colon, behind_colon, iri_at}
+use Rattle.sparql_symbol.specs.Reading.{is_prefix_word, prefix_before, prefix_at, declared_prefix, absolute_iri, declared_by, declaration_at, with_first, read_prologue, before_colon, behind_colon, iri_inside}
 use Rattle.sparql_symbol.proofs.NameParts.{name-read}
 use Rattle.sparql_symbol.proofs.Readings.{iri-read}
 use Rattle.sparql_symbol.proofs.Standing.{IsLexeme, AreLexemes}
@@ -70,8 +70,8 @@ guarded true found iri e = (refl, cc)
 guarded false found iri e = absurd cc
 
 iri-kind : (kind : Kind) (text iri : List ℕ) → absolute_iri kind text ≡ Some iri
-    → (kind ≡ kinds.Iri) × (has_scheme (iri_at text) ≡ true) × (iri_at text ≡ iri)
-iri-kind kinds.Iri text iri e = let g = guarded (has_scheme (iri_at text)) (iri_at text) iri e in (refl, g.0, g.1)
+    → (kind ≡ kinds.Iri) × (has_scheme (iri_inside text) ≡ true) × (iri_inside text ≡ iri)
+iri-kind kinds.Iri text iri e = let g = guarded (has_scheme (iri_inside text)) (iri_inside text) iri e in (refl, g.0, g.1)
 iri-kind _ text iri e = absurd cc
 
 iri-sound : (l : Lexeme) (iri : List ℕ) → IsLexeme l → absolute_iri l.kind l.text ≡ Some iri → IsAbsolute l iri
@@ -82,7 +82,7 @@ iri-sound l iri h e =
 
 iri-is : (l : Lexeme) (iri : List ℕ) → IsUtf8 l.text → IsAbsolute l iri → absolute_iri l.kind l.text ≡ Some iri
 iri-is l iri utf8 h =
-    let same : iri_at l.text ≡ iri = iri-read l.text utf8 h.token ∙ sym h.spelled in
+    let same : iri_inside l.text ≡ iri = iri-read l.text utf8 h.token ∙ sym h.spelled in
     ap (λ k. absolute_iri k l.text) h.kind ∙ rw (same, h.scheme) refl
 
 -- ---- the three together

@@ -12,7 +12,7 @@ use Rattle.term_core.specs.Terminals.{is_plain_in, is_long_plain, is_quote, IsLo
 use Rattle.term_core.specs.Terminals as long
 use Rattle.sparql_lex.proofs.Bools.{among}
 use Rattle.sparql_symbol.specs.declared.undoing.Place.TheVariants as places
-use Rattle.sparql_symbol.specs.Undoing.{undone, with_digit, hex_value}
+use Rattle.sparql_symbol.specs.Undoing.{undone, with_hex_digit, hex_value}
 
 -- each number on the way is no greater than the last
 hex_onto-grows : (number : ℕ) (digits : List ℕ) → number ≤ hex_onto number digits
@@ -35,7 +35,7 @@ hex-value : (d : ℕ) → is_hex d ≡ true → hex_value d ≡ digit_value d
 hex-value d h = let small = hex-small d h in grind (arith, nat_tests)
 
 -- a number with one more digit, where it has room
-digit-added : (number d : ℕ) → is_hex d ≡ true → number * 16 + digit_value d < 1114112 → with_digit number d ≡ number * 16 + digit_value d
+digit-added : (number d : ℕ) → is_hex d ≡ true → number * 16 + digit_value d < 1114112 → with_hex_digit number d ≡ number * 16 + digit_value d
 digit-added number d h small = let value = hex-value d h in omega (arith, value)
 
 -- the digits of an escape

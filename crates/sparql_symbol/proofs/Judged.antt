@@ -8,7 +8,7 @@ use Rattle.term_core.specs.declared.token.Token.{Token}
 use Rattle.sparql_tree.specs.declared.symbol.Symbol.{Symbol}
 use Rattle.sparql_tree.specs.Symbols.{Lexeme, Prefixes, name_symbol, lexemes, AreSymbolsOf}
 use Rattle.sparql_tree.specs.Prologue.{Declaration, IsPrologue, ended, declared, no_prefixes, prefixes_over, prefixes_of}
-use Rattle.sparql_symbol.specs.Reading.{AreRead, before_colon, behind_colon, local_at, read_symbol, read_symbols, read_prologue}
+use Rattle.sparql_symbol.specs.Reading.{AreOfLexemes, before_colon, behind_colon, local_at, read_symbol, read_symbols, read_prologue}
 use Rattle.sparql_tree.specs.Refusals.{AreTokensOf, AreSymbols}
 use Rattle.sparql_tree.specs.Unsupported.{first_unsupported, deepest}
 use Rattle.sparql_symbol.proofs.Declarations.{prologue-sound}
@@ -32,7 +32,7 @@ not-less n h = grind (arith, nat_tests)
 
 -- what is read of a text's tokens are their symbols
 pub symbols-spelled : (text : List ℕ) (ts : List Token) (ss : List Symbol) → length text ≤ 262144 → Tokens text ts
-    → first_unsupported (lexemes text ts) ≡ None → nat_lt 256 (deepest (lexemes text ts)) ≡ false → AreRead (lexemes text ts) ss → AreSymbols text ss
+    → first_unsupported (lexemes text ts) ≡ None → nat_lt 256 (deepest (lexemes text ts)) ≡ false → AreOfLexemes (lexemes text ts) ss → AreSymbols text ss
 symbols-spelled text ts ss small tokens answered shallow h =
     let ls = lexemes text ts in
     let lexemes' = text-lexemes text ts tokens in
@@ -60,13 +60,13 @@ symbols-same f g h (l ∷ ls) =
 
 -- the symbols behind the prologue, by prefixes that are those of its declarations
 behind-same : (f g : Prefixes) (ls rest : List Lexeme) → rest ≡ (read_prologue ls).1 → ((q : List ℕ) → f q ≡ prefixes_over g (read_prologue ls).0 q)
-    → ((q : List ℕ) → g q ≡ None) → AreRead ls (read_symbols f rest)
+    → ((q : List ℕ) → g q ≡ None) → AreOfLexemes ls (read_symbols f rest)
 behind-same f g ls rest e declares none =
     let same = λ (q : List ℕ). declares q ∙ over-same g no_prefixes none (read_prologue ls).0 q in
     ap (read_symbols f) e ∙ symbols-same f (prefixes_of (read_prologue ls).0) same (read_prologue ls).1
 
 pub behind-read : {E : Type 0} (r : Result (List Symbol) E) (f g : Prefixes) (ls rest : List Lexeme) → IfOk r (λ ss. ss ≡ read_symbols f rest)
     → rest ≡ (read_prologue ls).1 → ((q : List ℕ) → f q ≡ prefixes_over g (read_prologue ls).0 q) → ((q : List ℕ) → g q ≡ None)
-    → IfOk r (AreRead ls)
+    → IfOk r (AreOfLexemes ls)
 behind-read (Ok ss) f g ls rest h e declares none = h ∙ behind-same f g ls rest e declares none
 behind-read (Err e) f g ls rest h same declares none = tt

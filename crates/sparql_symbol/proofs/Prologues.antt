@@ -4,7 +4,7 @@ use Rattle.std.specs.Str.{bytes_eq}
 use Rattle.term_core.specs.declared.token.Token.{Token}
 use Rattle.sparql_tree.specs.Symbols.{Lexeme, Prefixes, lexeme, lexemes}
 use Rattle.sparql_tree.specs.Prologue.{Declaration, with_declaration, prefixes_over}
-use Rattle.sparql_symbol.specs.Reading.{Becomes, declaration_at, with_first, read_prologue}
+use Rattle.sparql_symbol.specs.Reading.{Declares, declaration_at, with_first, read_prologue}
 
 abbrev Read : Type 0
 Read = List Declaration × List Lexeme
@@ -17,12 +17,12 @@ pub over-same : (f g : Prefixes) → ((q : List ℕ) → f q ≡ g q) → (ds : 
 over-same f g h [] q = h q
 over-same f g h (d ∷ ds) q = over-same (with_declaration f d) (with_declaration g d) (with-same f g h d) ds q
 
-stopped : (o : Option Declaration) (found : Bool) (old new : Prefixes) → Becomes o found old new → found ≡ false → (all : List Lexeme) (more : Read)
+stopped : (o : Option Declaration) (found : Bool) (old new : Prefixes) → Declares o found old new → found ≡ false → (all : List Lexeme) (more : Read)
     → ((with_first o all more).1 ≡ all) × ((q : List ℕ) → prefixes_over old (with_first o all more).0 q ≡ new q)
 stopped None found old new h e all more = (refl, λ q. sym (h.1 q))
 stopped (Some d) found old new h e all more = let no : true ≡ false = sym h.0 ∙ e in absurd cc
 
-went : (o : Option Declaration) (found : Bool) (old new : Prefixes) → Becomes o found old new → found ≡ true → (all : List Lexeme) (more : Read)
+went : (o : Option Declaration) (found : Bool) (old new : Prefixes) → Declares o found old new → found ≡ true → (all : List Lexeme) (more : Read)
     → ((with_first o all more).1 ≡ more.1) × ((q : List ℕ) → prefixes_over old (with_first o all more).0 q ≡ prefixes_over new more.0 q)
 went None found old new h e all more = let no : true ≡ false = sym e ∙ h.0 in absurd cc
 went (Some d) found old new h e all more = (refl, over-same (with_declaration old d) new (λ r. sym (h.1 r)) more.0)
@@ -45,7 +45,7 @@ three text ts at d fits =
 -- what a turn does, where these three declare that
 abbrev pub Turn : List ℕ → List Token → ℕ → Token → Bool → Prefixes → Prefixes → Type 0
 Turn text ts at d found old new =
-    Becomes (declaration_at (Word text ts at d) (Word text ts (at + 1) d) (Word text ts (at + 2) d)) found old new
+    Declares (declaration_at (Word text ts at d) (Word text ts (at + 1) d) (Word text ts (at + 2) d)) found old new
 
 pub stop-rest : (text : List ℕ) (ts : List Token) (at : ℕ) (d : Token) (found : Bool) (old new : Prefixes) (rest : List Lexeme) → at + 2 < length ts
     → Turn text ts at d found old new → found ≡ false → (read_prologue (lexemes text (drop at ts))).1 ≡ rest → lexemes text (drop at ts) ≡ rest

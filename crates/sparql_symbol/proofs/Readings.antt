@@ -9,28 +9,28 @@ use Rattle.sparql_tree.specs.declared.symbol.Symbol.{Symbol}
 use Rattle.sparql_symbol.specs.declared.undoing.Place.TheVariants as places
 use Rattle.sparql_symbol.specs.Undoing.{undone}
 use Rattle.sparql_tree.specs.Symbols.{Prefixes, Lexeme, symbol, iri_symbol, name_symbol, IsStringSymbol, IsSymbolOf, AreSymbolsOf}
-use Rattle.sparql_symbol.specs.Reading.{within, spelled, behind_colon, local_at, iri_at, string_at, read_symbol, read_symbols}
+use Rattle.sparql_symbol.specs.Reading.{within, spelled, behind_colon, local_at, iri_inside, string_inside, read_symbol, read_symbols}
 use Rattle.sparql_symbol.proofs.Escapes.{iri-undone, short-undone, long-undone}
 use Rattle.sparql_symbol.proofs.Frames.{iri-framed, blank-framed, variable-framed, language-framed, StringFramed, short-framed, long-framed}
 use Rattle.sparql_symbol.proofs.NameParts.{name-read}
 use Rattle.sparql_symbol.proofs.Standing.{AreLexemes}
 
-pub iri-read : (text : List ℕ) → IsUtf8 text → (h : IsIri (chars text)) → iri_at text ≡ encode_utf8_all h.iri
+pub iri-read : (text : List ℕ) → IsUtf8 text → (h : IsIri (chars text)) → iri_inside text ≡ encode_utf8_all h.iri
 iri-read text utf8 h =
     let f = iri-framed text utf8 h in
     ap (λ cs. encode_utf8_all cs) (ap (undone places.Plain) f.characters ∙ iri-undone h.is_body)
 
-string-framed : (text body value : List ℕ) → StringFramed text body → undone places.Plain body ≡ value → string_at text ≡ encode_utf8_all value
+string-framed : (text body value : List ℕ) → StringFramed text body → undone places.Plain body ≡ value → string_inside text ≡ encode_utf8_all value
 string-framed text body value f h =
     ap (λ n. spelled (within n n text)) f.is ∙ ap (λ cs. encode_utf8_all cs) (ap (undone places.Plain) f.framed.characters ∙ h)
 
-short-read : (text : List ℕ) → IsUtf8 text → (h : IsShortString (chars text)) → string_at text ≡ encode_utf8_all h.value
+short-read : (text : List ℕ) → IsUtf8 text → (h : IsShortString (chars text)) → string_inside text ≡ encode_utf8_all h.value
 short-read text utf8 h = string-framed text h.body h.value (short-framed text utf8 h) (short-undone h.quote h.quotes h.is_body)
 
-long-read : (text : List ℕ) → IsUtf8 text → (h : IsLongString (chars text)) → string_at text ≡ encode_utf8_all h.value
+long-read : (text : List ℕ) → IsUtf8 text → (h : IsLongString (chars text)) → string_inside text ≡ encode_utf8_all h.value
 long-read text utf8 h = string-framed text h.body h.value (long-framed text utf8 h) (long-undone h.quote h.quotes h.is_body)
 
-string-reading : (text : List ℕ) (s : Symbol) → IsUtf8 text → IsStringSymbol (chars text) s → s ≡ symbol shapes.Quoted (string_at text)
+string-reading : (text : List ℕ) (s : Symbol) → IsUtf8 text → IsStringSymbol (chars text) s → s ≡ symbol shapes.Quoted (string_inside text)
 string-reading text s utf8 (inl h) = h.1 ∙ ap (symbol shapes.Quoted) (sym (short-read text utf8 h.0))
 string-reading text s utf8 (inr h) = h.1 ∙ ap (symbol shapes.Quoted) (sym (long-read text utf8 h.0))
 

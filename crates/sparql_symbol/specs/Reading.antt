@@ -17,7 +17,7 @@ use Rattle.sparql_tree.specs.Symbols.{Lexeme, Prefixes, symbol, bare, other, iri
 use Rattle.sparql_tree.specs.Prologue.{Declaration, with_declaration, prefixes_of}
 
 -- a token stands in the text, between two of its characters
-pub record Stands (text : List ℕ) (t : Token) : Type 0 where
+pub record StandsIn (text : List ℕ) (t : Token) : Type 0 where
   pub order : t.from ≤ t.to
   pub begins : IsCharBoundary text t.from
   pub ends : IsCharBoundary text t.to
@@ -38,8 +38,8 @@ abbrev pub spelled : List ℕ → List ℕ
 spelled text = encode_utf8_all (undone places.Plain (chars text))
 
 -- the IRI between < and >
-abbrev pub iri_at : List ℕ → List ℕ
-iri_at text = spelled (within 1 1 text)
+abbrev pub iri_inside : List ℕ → List ℕ
+iri_inside text = spelled (within 1 1 text)
 
 -- what stands in front of the first colon
 abbrev pub before_colon : List ℕ → List ℕ
@@ -65,16 +65,16 @@ abbrev pub quotes_of : List ℕ → ℕ
 quotes_of text = if is_long text then 3 else 1
 
 -- the characters between the quotes
-abbrev pub string_at : List ℕ → List ℕ
-string_at text = spelled (within (quotes_of text) (quotes_of text) text)
+abbrev pub string_inside : List ℕ → List ℕ
+string_inside text = spelled (within (quotes_of text) (quotes_of text) text)
 
 -- the symbol of a token
 abbrev pub read_symbol : Prefixes → Kind → List ℕ → Symbol
-read_symbol prefixes kinds.Iri text = iri_symbol (iri_at text)
+read_symbol prefixes kinds.Iri text = iri_symbol (iri_inside text)
 read_symbol prefixes kinds.PName text = name_symbol (prefixes (before_colon text)) (local_at (behind_colon text))
 read_symbol prefixes kinds.Blank text = symbol shapes.Blank (within 2 0 text)
 read_symbol prefixes kinds.Var text = symbol shapes.Var (within 1 0 text)
-read_symbol prefixes kinds.String text = symbol shapes.Quoted (string_at text)
+read_symbol prefixes kinds.String text = symbol shapes.Quoted (string_inside text)
 read_symbol prefixes kinds.Lang text = symbol shapes.Tag (map to_ascii_lowercase (within 1 0 text))
 read_symbol prefixes kinds.Integer text = symbol shapes.Integer text
 read_symbol prefixes kinds.Decimal text = symbol shapes.Decimal text
@@ -110,7 +110,7 @@ declared_prefix word name = if is_prefix_word word.kind word.text then prefix_at
 
 -- the IRI of a token, where it has a scheme
 abbrev pub absolute_iri : Kind → List ℕ → Option (List ℕ)
-absolute_iri kinds.Iri text = if has_scheme (iri_at text) then Some (iri_at text) else None
+absolute_iri kinds.Iri text = if has_scheme (iri_inside text) then Some (iri_inside text) else None
 absolute_iri _ text = None
 
 -- a prefix with its IRI
@@ -133,10 +133,10 @@ read_prologue (word ∷ name ∷ iri ∷ ls) = with_first (declaration_at word n
 read_prologue ls = ([], ls)
 
 -- the prefixes became those with the declaration, if there is one
-abbrev pub Becomes : Option Declaration → Bool → Prefixes → Prefixes → Type 0
-Becomes None found old new = (found ≡ false) × ((prefix : List ℕ) → new prefix ≡ old prefix)
-Becomes (Some d) found old new = (found ≡ true) × ((prefix : List ℕ) → new prefix ≡ with_declaration old d prefix)
+abbrev pub Declares : Option Declaration → Bool → Prefixes → Prefixes → Type 0
+Declares None found old new = (found ≡ false) × ((prefix : List ℕ) → new prefix ≡ old prefix)
+Declares (Some d) found old new = (found ≡ true) × ((prefix : List ℕ) → new prefix ≡ with_declaration old d prefix)
 
 -- the symbols of the tokens behind the prologue
-abbrev pub AreRead : List Lexeme → List Symbol → Type 0
-AreRead ls symbols = symbols ≡ read_symbols (prefixes_of (read_prologue ls).0) (read_prologue ls).1
+abbrev pub AreOfLexemes : List Lexeme → List Symbol → Type 0
+AreOfLexemes ls symbols = symbols ≡ read_symbols (prefixes_of (read_prologue ls).0) (read_prologue ls).1

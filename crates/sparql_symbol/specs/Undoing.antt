@@ -29,8 +29,8 @@ abbrev pub hex_value : ℕ → ℕ
 hex_value c = if nat_lt (digit_value c) 16 then digit_value c else 0
 
 -- the number with one more digit, if it has 32 bits
-abbrev pub with_digit : ℕ → ℕ → ℕ
-with_digit number c = min (min (number * 16) (2 ^ 32 - 1) + hex_value c) (2 ^ 32 - 1)
+abbrev pub with_hex_digit : ℕ → ℕ → ℕ
+with_hex_digit number c = min (min (number * 16) (2 ^ 32 - 1) + hex_value c) (2 ^ 32 - 1)
 
 -- the character of a number, if it has one
 abbrev pub char_of : ℕ → Option ℕ
@@ -38,26 +38,26 @@ char_of n = if is_scalar n then Some n else None
 
 -- within the digits: the last of them ends the escape
 abbrev pub digit_step : ℕ → ℕ → ℕ → Reading
-digit_step left number c = if nat_le left 1 then step_to (char_of (with_digit number c)) places.Plain
-    else step_to None (places.Digits (left - 1) (with_digit number c))
+digit_step left number c = if nat_le left 1 then step_to (char_of (with_hex_digit number c)) places.Plain
+    else step_to None (places.Digits (left - 1) (with_hex_digit number c))
 
 -- in a local name, whose backslashes are dropped
 abbrev pub name_step : ℕ → Reading
 name_step c = if c == 92 then step_to None places.Name else step_to (Some c) places.Name
 
 -- one more character
-abbrev pub step : Place → ℕ → Reading
-step places.Plain c = plain_step c
-step places.Letter c = letter_step c
-step (places.Digits left number) c = digit_step left number c
-step places.Name c = name_step c
+abbrev pub undo_step : Place → ℕ → Reading
+undo_step places.Plain c = plain_step c
+undo_step places.Letter c = letter_step c
+undo_step (places.Digits left number) c = digit_step left number c
+undo_step places.Name c = name_step c
 
 -- a character in front, if there is one
-abbrev pub onto : Option ℕ → List ℕ → List ℕ
-onto None text = text
-onto (Some c) text = c ∷ text
+abbrev pub in_front : Option ℕ → List ℕ → List ℕ
+in_front None text = text
+in_front (Some c) text = c ∷ text
 
 -- what the characters spell from this place on
 abbrev pub undone : Place → List ℕ → List ℕ
 undone place [] = []
-undone place (c ∷ text) = onto (step place c).spelled (undone (step place c).next text)
+undone place (c ∷ text) = in_front (undo_step place c).spelled (undone (undo_step place c).next text)

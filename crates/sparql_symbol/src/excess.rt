@@ -5,7 +5,7 @@
 //! holds the name of its variable (section 10.2).
 
 ghost use Rattle.std.specs.Prelude.{All};
-ghost use Rattle.sparql_symbol.specs.Reading.{Stands};
+ghost use Rattle.sparql_symbol.specs.Reading.{StandsIn};
 
 use crate::parts::{spelling, split_colon};
 use crate::prefixes::Prefixes;
@@ -242,7 +242,7 @@ fn again(tokens: &[Token], before: Passed, shape: Shape) -> usize {
 /// Whether the tokens behind a prologue hold too many bytes past those of the text. The time is linear in
 /// the text, but for the look-up of prefixes in a map, and nothing is allocated.
 pub fn is_excessive(text: &str, tokens: &[Token], prefixes: &Prefixes<'_>) -> bool
-    requires { All (Stands text.now) tokens.now }
+    requires { All (StandsIn text.now) tokens.now }
 {
     let mut before = Passed {
         parentheses: 0,

@@ -3,13 +3,13 @@
 ghost use Rattle.std.specs.Prelude.{◌≡◌, ◌==◌, ℕ};
 ghost use Rattle.std.specs.List.{slice_range};
 ghost use Rattle.sparql_symbol.specs.Reading as spec;
-ghost use Rattle.sparql_symbol.specs.Reading.{Stands, IsFramed, before_colon, behind_colon};
+ghost use Rattle.sparql_symbol.specs.Reading.{StandsIn, IsFramed, before_colon, behind_colon};
 
 use term_core::Token;
 
 /// The text of a token.
 pub fn spelling(text: &str, token: Token) -> &str
-    requires { Stands text.now token }
+    requires { StandsIn text.now token }
     ensures { result.now ≡ slice_range text.now token.from token.to }
 {
     &text[token.from..token.to]

@@ -6,7 +6,7 @@ ghost use Rattle.term_core.specs.Terminals.{IsToken};
 ghost use Rattle.sparql_symbol.specs.Names.{iri_of};
 ghost use Rattle.sparql_tree.specs.Prologue.{prefixes_over};
 ghost use Rattle.sparql_symbol.specs.Reading as spec;
-ghost use Rattle.sparql_symbol.specs.Reading.{Stands, Becomes, declaration_at, read_prologue};
+ghost use Rattle.sparql_symbol.specs.Reading.{StandsIn, Declares, declaration_at, read_prologue};
 ghost use Rattle.sparql_tree.specs.Symbols.{lexeme, lexemes};
 
 use crate::parts::{spelling, split_colon};
@@ -43,8 +43,8 @@ fn prefix_at(kind: Kind, text: &str) -> Option<&str>
 
 /// The prefix that two tokens declare for the IRI behind them.
 fn declared_prefix<'a>(text: &'a str, word: Token, name: Token) -> Option<&'a str>
-    requires word { Stands text.now word }
-    requires name { Stands text.now name }
+    requires word { StandsIn text.now word }
+    requires name { StandsIn text.now name }
     ensures { option_map (λ prefix. prefix.now) result ≡ spec.declared_prefix (lexeme text.now word) (lexeme text.now name) }
 {
     if is_prefix_word(word.kind, spelling(text, word)) {
@@ -81,10 +81,10 @@ fn declare_by<'a>(
     iri: Token,
     prefixes: &mut Prefixes<'a>,
 ) -> Result<bool, Memory>
-    requires word { Stands text.now word }
-    requires name { Stands text.now name }
-    requires iri { Stands text.now iri }
-    ensures { IfOk result (λ found. Becomes (declaration_at (lexeme text.now word) (lexeme text.now name) (lexeme text.now iri)) found
+    requires word { StandsIn text.now word }
+    requires name { StandsIn text.now name }
+    requires iri { StandsIn text.now iri }
+    ensures { IfOk result (λ found. Declares (declaration_at (lexeme text.now word) (lexeme text.now name) (lexeme text.now iri)) found
         (iri_of prefixes.old) (iri_of prefixes.new)) }
 {
     match declared_prefix(text, word, name) {
@@ -106,7 +106,7 @@ pub fn read_prologue<'a>(
     tokens: &[Token],
     prefixes: &mut Prefixes<'a>,
 ) -> Result<usize, Memory>
-    requires { All (Stands text.now) tokens.now }
+    requires { All (StandsIn text.now) tokens.now }
     ensures within { IfOk result (λ n. n ≤ length tokens.now) }
     ensures rest { IfOk result (λ n. lexemes text.now (drop n tokens.now) ≡ (read_prologue (lexemes text.now tokens.now)).1) }
     ensures declared { IfOk result (λ n. (prefix : List ℕ) → iri_of prefixes.new prefix

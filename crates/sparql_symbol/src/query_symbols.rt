@@ -4,8 +4,8 @@ ghost use Rattle.std.specs.Prelude.{◌≡◌, ◌≤◌, All, IfOk, IfErr, OnEr
 ghost use Rattle.term_core.specs.Tokens.{Tokens};
 ghost use Rattle.sparql_symbol.specs.Names.{iri_of};
 ghost use Rattle.sparql_symbol.specs.Reading as spec;
-ghost use Rattle.sparql_symbol.specs.Reading.{Stands, AreRead};
-ghost use Rattle.sparql_tree.specs.Refusals.{AreSymbols, WhyNone};
+ghost use Rattle.sparql_symbol.specs.Reading.{StandsIn, AreOfLexemes};
+ghost use Rattle.sparql_tree.specs.Refusals.{AreSymbols, WhyNoSymbols};
 ghost use Rattle.sparql_tree.specs.Symbols.{lexemes};
 
 use crate::excess::is_excessive;
@@ -25,7 +25,7 @@ fn read_symbols(
     tokens: &[Token],
     prefixes: &Prefixes<'_>,
 ) -> Result<Items<Symbol>, Memory>
-    requires { All (Stands text.now) tokens.now }
+    requires { All (StandsIn text.now) tokens.now }
     ensures { IfOk result (λ symbols. symbols ≡ spec.read_symbols (iri_of prefixes.now) (lexemes text.now tokens.now)) }
 {
     let mut symbols = Items::new(alloc);
@@ -38,8 +38,8 @@ fn read_symbols(
 /// The symbols behind the prologue. What holds too much past its text is want of memory before anything
 /// is written out.
 fn behind_prologue(alloc: Global, text: &str, tokens: &[Token]) -> Result<Items<Symbol>, Memory>
-    requires { All (Stands text.now) tokens.now }
-    ensures { IfOk result (AreRead (lexemes text.now tokens.now)) }
+    requires { All (StandsIn text.now) tokens.now }
+    ensures { IfOk result (AreOfLexemes (lexemes text.now tokens.now)) }
 {
     let mut prefixes = Prefixes::new(alloc);
     let at = read_prologue(alloc, text, tokens, &mut prefixes)?;
@@ -67,7 +67,7 @@ pub fn symbols_of(alloc: Global, text: &str, tokens: &[Token]) -> Result<Items<S
     requires small { length text.now ≤ 262144 }
     requires tokens { Tokens text.now tokens.now }
     ensures found { IfOk result (AreSymbols text.now) }
-    ensures why { IfErr result (WhyNone text.now) }
+    ensures why { IfErr result (WhyNoSymbols text.now) }
 {
     if let Some(what) = first_unsupported(text, tokens) {
         return Err(QueryFault::Unsupported {

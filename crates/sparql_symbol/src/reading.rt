@@ -6,7 +6,7 @@ ghost use Rattle.std.specs.Str.{chars};
 ghost use Rattle.term_core.specs.Terminals.{IsToken};
 ghost use Rattle.term_core.specs.declared.token.Kind.TheVariants as kinds;
 ghost use Rattle.sparql_symbol.specs.Reading as spec;
-ghost use Rattle.sparql_symbol.specs.Reading.{iri_at, read_symbol};
+ghost use Rattle.sparql_symbol.specs.Reading.{iri_inside, read_symbol};
 ghost use Rattle.sparql_tree.specs.Symbols as symbols;
 ghost use Rattle.sparql_symbol.specs.Names.{iri_of};
 ghost use Rattle.sparql_tree.specs.declared.symbol.Shape.TheVariants as Shape;
@@ -42,7 +42,7 @@ fn copied(alloc: Global, shape: Shape, text: &str) -> Result<Symbol, Memory>
 /// The IRI of a token, behind its escapes.
 pub fn read_iri(alloc: Global, text: &str) -> Result<Text, Memory>
     requires { IsToken kinds.Iri (chars text.now) }
-    ensures { IfOk result (λ iri. iri ≡ iri_at text.now) }
+    ensures { IfOk result (λ iri. iri ≡ iri_inside text.now) }
 {
     let body = within(text, 1, 1);
     Ok(Text::from_string(undo(String::new(alloc), Place::Plain, body)?))
@@ -50,7 +50,7 @@ pub fn read_iri(alloc: Global, text: &str) -> Result<Text, Memory>
 
 fn iri_symbol(alloc: Global, text: &str) -> Result<Symbol, Memory>
     requires { IsToken kinds.Iri (chars text.now) }
-    ensures { IfOk result (λ s. s ≡ symbols.iri_symbol (iri_at text.now)) }
+    ensures { IfOk result (λ s. s ≡ symbols.iri_symbol (iri_inside text.now)) }
 {
     let iri = read_iri(alloc, text)?;
     if has_scheme(iri.bytes()) {
@@ -87,7 +87,7 @@ fn name_symbol(alloc: Global, prefixes: &Prefixes<'_>, text: &str) -> Result<Sym
 
 fn string_symbol(alloc: Global, text: &str) -> Result<Symbol, Memory>
     requires { IsToken kinds.String (chars text.now) }
-    ensures { IfOk result (λ s. s ≡ symbols.symbol Shape.Quoted (spec.string_at text.now)) }
+    ensures { IfOk result (λ s. s ≡ symbols.symbol Shape.Quoted (spec.string_inside text.now)) }
 {
     let quotes = quotes_of(text.as_bytes());
     let body = within(text, quotes, quotes);

@@ -3,7 +3,7 @@
 ghost use Rattle.std.specs.Prelude.{◌≡◌, ◌++◌, [], IfOk, OnOk, string_bytes};
 ghost use Rattle.std.specs.Str.{chars, encode_utf8_all};
 ghost use Rattle.sparql_symbol.specs.Undoing as spec;
-ghost use Rattle.sparql_symbol.specs.Undoing.{undone, with_digit};
+ghost use Rattle.sparql_symbol.specs.Undoing.{undone, with_hex_digit};
 
 use std::alloc::AllocError;
 use term_core::unescaped;
@@ -71,7 +71,7 @@ fn letter_step(c: char) -> Reading
 
 /// The number with one more digit.
 fn with_digit(number: u32, c: char) -> u32
-    ensures { result ≡ with_digit number c }
+    ensures { result ≡ with_hex_digit number c }
 {
     let digit = match c.to_digit(16) {
         Some(digit) => digit,
@@ -111,7 +111,7 @@ fn name_step(c: char) -> Reading
 }
 
 fn step(place: Place, c: char) -> Reading
-    ensures { result ≡ spec.step place c }
+    ensures { result ≡ spec.undo_step place c }
 {
     match place {
         Place::Plain => plain_step(c),
@@ -122,7 +122,7 @@ fn step(place: Place, c: char) -> Reading
 }
 
 fn push_some(spelled: &mut String, c: Option<char>) -> Result<(), AllocError>
-    ensures { OnOk result (string_bytes spelled.new ≡ string_bytes spelled.old ++ encode_utf8_all (spec.onto c [])) }
+    ensures { OnOk result (string_bytes spelled.new ≡ string_bytes spelled.old ++ encode_utf8_all (spec.in_front c [])) }
 {
     match c {
         Some(c) => spelled.push(c),

@@ -2,7 +2,7 @@
 
 ghost use Rattle.std.specs.Prelude.{◌≡◌, ◌≤◌, ◌<◌, All, option_map, nat_lt};
 ghost use Rattle.xsd_num.specs.Values.{number_of, found};
-ghost use Rattle.sparql_symbol.specs.Reading.{Stands};
+ghost use Rattle.sparql_symbol.specs.Reading.{StandsIn};
 ghost use Rattle.sparql_tree.specs.Symbols.{lexemes};
 ghost use Rattle.sparql_tree.specs.Unsupported as spec;
 ghost use Rattle.sparql_tree.specs.Unsupported.{first_unsupported, deepest};
@@ -108,7 +108,7 @@ fn before_next(before: Before, kind: Kind, text: &[u8]) -> Before
 
 /// The first token that is not answered, as it is written.
 pub fn first_unsupported<'a>(text: &'a str, tokens: &[Token]) -> Option<&'a str>
-    requires { All (Stands text.now) tokens.now }
+    requires { All (StandsIn text.now) tokens.now }
     ensures { option_map (λ what. what.now) result ≡ first_unsupported (lexemes text.now tokens.now) }
 {
     let mut before = Before {
@@ -158,7 +158,7 @@ fn open_behind(groups: usize, kind: Kind, text: &[u8]) -> usize
 
 /// Whether more groups are open at one place than may be.
 pub fn is_too_deep(text: &str, tokens: &[Token]) -> bool
-    requires { All (Stands text.now) tokens.now }
+    requires { All (StandsIn text.now) tokens.now }
     ensures { result ≡ nat_lt 256 (deepest (lexemes text.now tokens.now)) }
 {
     let mut groups = 0;

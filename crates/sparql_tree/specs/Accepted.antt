@@ -24,6 +24,6 @@ IsRefused text (faults.Scope name) = IsBroken text name
 IsRefused text fault = HasNoTree text fault
 
 -- why it is refused: want of memory, or a cause
-abbrev pub WhyRefused : List ℕ → QueryFault → Type 0
-WhyRefused text faults.Memory = Unit {0}
-WhyRefused text fault = IsRefused text fault
+abbrev pub WhyQueryRefused : List ℕ → QueryFault → Type 0
+WhyQueryRefused text faults.Memory = Unit {0}
+WhyQueryRefused text fault = IsRefused text fault

@@ -26,8 +26,8 @@ breach_if breaks name = if breaks then name ∷ [] else []
 -- ---- the group
 
 -- variables that are there already
-abbrev pub again : List Name → List Mark
-again names = map (λ name. marks.Again name) names
+abbrev pub declared_again : List Name → List Mark
+declared_again names = map (λ name. marks.Again name) names
 
 -- the names that stand before among them too, where these stand before all
 abbrev pub repeated : List Name → List Name → List Name
@@ -44,11 +44,11 @@ behind_edge more = marks.Edge ∷ more
 
 -- the marks of BIND, where these variables are in scope of the parts before it (SPARQL 1.1 18.2.1)
 abbrev pub bind_marks : List Name → Name → List Mark
-bind_marks before variable = behind_edge (again (breach_if (has_name before variable) variable))
+bind_marks before variable = behind_edge (declared_again (breach_if (has_name before variable) variable))
 
 -- the marks of VALUES: its variables that stand in it before (SPARQL 1.1 10.2)
 abbrev pub values_marks : List Name → List Mark
-values_marks variables = behind_edge (again (repeated [] variables))
+values_marks variables = behind_edge (declared_again (repeated [] variables))
 
 abbrev mutual
   -- the marks of a part, where these variables are in scope of the parts before it; triples with only filters between
@@ -124,15 +124,15 @@ abbrev pub item_values : List SelectItem → List Expr
 item_values items = flat_map (λ item. value_there item.value) items
 
 -- whether solutions are grouped: by keys, or since an aggregate stands somewhere (SPARQL 1.1 18.2.4.1)
-abbrev pub is_empty : List GroupKey → Bool
-is_empty [] = true
-is_empty (first ∷ rest) = false
+abbrev pub has_no_keys : List GroupKey → Bool
+has_no_keys [] = true
+has_no_keys (first ∷ rest) = false
 
 abbrev pub order_has_aggregate : OrderKey → Bool
 order_has_aggregate key = has_aggregate key.value
 
 abbrev pub is_grouped : Query → Bool
-is_grouped q = not (is_empty q.keys)
+is_grouped q = not (has_no_keys q.keys)
     || (list_any has_aggregate (item_values q.items) || (list_any has_aggregate q.having || list_any order_has_aggregate q.order))
 
 -- the variables that the keys of the order have outside aggregates

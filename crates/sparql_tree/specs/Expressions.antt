@@ -14,7 +14,7 @@ use Rattle.sparql_tree.specs.declared.symbol.Shape.{Shape}
 use Rattle.sparql_tree.specs.declared.symbol.Shape.TheVariants as s
 use Rattle.sparql_tree.specs.declared.symbol.Symbol.{Symbol}
 use Rattle.sparql_tree.specs.Heads.{head}
-use Rattle.sparql_tree.specs.Heads.{Is, Holds}
+use Rattle.sparql_tree.specs.Heads.{Is, IsHead}
 use Rattle.sparql_tree.specs.Terms.{IsTerm}
 
 -- a chain of one is that one
@@ -145,7 +145,7 @@ mutual
   -- term | VAR | '(' expr ')' | call | aggregate
   pub data IsAtom : Bool → List Symbol → Expr → List Symbol → Type 0 where
     constant : {b : Bool} {ts rest : List Symbol} {term : Term} → IsTerm ts term rest → IsAtom b ts (Const term) rest
-    variable : {b : Bool} {ts rest : List Symbol} {name : Name} → Holds s.Var name ts rest → IsAtom b ts (Var name) rest
+    variable : {b : Bool} {ts rest : List Symbol} {name : Name} → IsHead s.Var name ts rest → IsAtom b ts (Var name) rest
     parens : {b : Bool} {ts us vs rest : List Symbol} {a : Expr} → Is s.Open ts us → IsExpr b us a vs → Is s.Close vs rest → IsAtom b ts a rest
     called : {b : Bool} {ts rest : List Symbol} {a : Expr} → IsCall b ts a rest → IsAtom b ts a rest
     aggregated : {ts rest : List Symbol} {a : Expr} → IsAggregate ts a rest → IsAtom true ts a rest
@@ -154,7 +154,7 @@ mutual
   pub data IsCall : Bool → List Symbol → Expr → List Symbol → Type 0 where
     call : {b : Bool} {ts us rest : List Symbol} {function : Function} {arguments : List Expr} → Is (s.Function function) ts us → IsList b us arguments rest
         → takes function (length arguments) ≡ true → IsCall b ts (Call function (exprs arguments)) rest
-    bound : {b : Bool} {ts us vs ws rest : List Symbol} {name : Name} → Is (s.Function functions.Bound) ts us → Is s.Open us vs → Holds s.Var name vs ws
+    bound : {b : Bool} {ts us vs ws rest : List Symbol} {name : Name} → Is (s.Function functions.Bound) ts us → Is s.Open us vs → IsHead s.Var name vs ws
         → Is s.Close ws rest → IsCall b ts (Call functions.Bound (exprs (Var name ∷ []))) rest
 
   -- COUNT '(' DISTINCT? '*' ')' | (COUNT | SUM | AVG | MIN | MAX) '(' DISTINCT? expr ')', where no aggregate stands inside

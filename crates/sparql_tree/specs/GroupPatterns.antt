@@ -6,7 +6,7 @@ use Rattle.sparql_tree.specs.Exprs.{Expr}
 use Rattle.sparql_tree.specs.Groups.{Group, GroupOf, Element, Union, Optional, Minus, Filter, Bind, Values, elements, groups}
 use Rattle.sparql_tree.specs.declared.symbol.Shape.TheVariants as s
 use Rattle.sparql_tree.specs.declared.symbol.Symbol.{Symbol}
-use Rattle.sparql_tree.specs.Heads.{Is, Holds}
+use Rattle.sparql_tree.specs.Heads.{Is, IsHead}
 use Rattle.sparql_tree.specs.Expressions.{IsExpr, IsCall, IsAggregate}
 use Rattle.sparql_tree.specs.Triples.{IsTriples}
 use Rattle.sparql_tree.specs.Values.{IsValues}
@@ -39,7 +39,7 @@ mutual
     optional : {ts us rest : List Symbol} {inner : Group} → Is s.Optional ts us → IsGroup us inner rest → IsElement ts (Optional inner) rest
     without : {ts us rest : List Symbol} {inner : Group} → Is s.Without ts us → IsGroup us inner rest → IsElement ts (Minus inner) rest
     filter : {ts us rest : List Symbol} {a : Expr} → Is s.Filter ts us → IsConstraint false us a rest → IsElement ts (Filter a) rest
-    bind : {ts us vs ws xs ys rest : List Symbol} {a : Expr} {name : Name} → Is s.Bind ts us → Is s.Open us vs → IsExpr false vs a ws → Is s.As ws xs → Holds s.Var name xs ys
+    bind : {ts us vs ws xs ys rest : List Symbol} {a : Expr} {name : Name} → Is s.Bind ts us → Is s.Open us vs → IsExpr false vs a ws → Is s.As ws xs → IsHead s.Var name xs ys
         → Is s.Close ys rest → IsElement ts (Bind a name) rest
     values : {ts us rest : List Symbol} {names : List Name} {rows : List Row} → Is s.Values ts us → IsValues us names rows rest → IsElement ts (Values names rows) rest
 

@@ -8,8 +8,8 @@ abbrev pub symbol : Shape → List ℕ → Symbol
 symbol shape value = record { shape = shape; value = value }
 
 -- a symbol of this shape and value stands first, and these behind it
-pub data Holds : Shape → List ℕ → List Symbol → List Symbol → Type 0 where
-  holds : {shape : Shape} {value : List ℕ} {rest : List Symbol} → Holds shape value (symbol shape value ∷ rest) rest
+pub data IsHead : Shape → List ℕ → List Symbol → List Symbol → Type 0 where
+  holds : {shape : Shape} {value : List ℕ} {rest : List Symbol} → IsHead shape value (symbol shape value ∷ rest) rest
 
 -- a symbol of this shape stands first, and these behind it
 pub data Is : Shape → List Symbol → List Symbol → Type 0 where

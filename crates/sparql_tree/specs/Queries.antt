@@ -7,7 +7,7 @@ use Rattle.sparql_tree.specs.Exprs.{Expr, Var}
 use Rattle.sparql_tree.specs.Groups.{Group, SelectItem, GroupKey, OrderKey, Query}
 use Rattle.sparql_tree.specs.declared.symbol.Shape.TheVariants as s
 use Rattle.sparql_tree.specs.declared.symbol.Symbol.{Symbol}
-use Rattle.sparql_tree.specs.Heads.{Is, Holds}
+use Rattle.sparql_tree.specs.Heads.{Is, IsHead}
 use Rattle.sparql_tree.specs.Expressions.{IsExpr, IsCall}
 use Rattle.sparql_tree.specs.GroupPatterns.{IsConstraint, IsGroup}
 
@@ -32,8 +32,8 @@ pub data IsDistinctness : List Symbol → Bool → List Symbol → Type 0 where
 
 -- VAR | '(' expr 'AS' VAR ')' (SPARQL 1.1 19.8, SelectClause)
 pub data IsItem : List Symbol → SelectItem → List Symbol → Type 0 where
-  item_variable : {ts rest : List Symbol} {name : Name} → Holds s.Var name ts rest → IsItem ts (item name None) rest
-  item_value : {ts us vs ws xs rest : List Symbol} {a : Expr} {name : Name} → Is s.Open ts us → IsExpr true us a vs → Is s.As vs ws → Holds s.Var name ws xs
+  item_variable : {ts rest : List Symbol} {name : Name} → IsHead s.Var name ts rest → IsItem ts (item name None) rest
+  item_value : {ts us vs ws xs rest : List Symbol} {a : Expr} {name : Name} → Is s.Open ts us → IsExpr true us a vs → Is s.As vs ws → IsHead s.Var name ws xs
       → Is s.Close xs rest → IsItem ts (item name (Some a)) rest
 
 -- item*
@@ -53,10 +53,10 @@ pub data IsWhere : List Symbol → List Symbol → Type 0 where
 
 -- VAR | call | '(' expr ('AS' VAR)? ')', where no aggregate stands (SPARQL 1.1 19.8, GroupCondition)
 pub data IsKey : List Symbol → GroupKey → List Symbol → Type 0 where
-  key_variable : {ts rest : List Symbol} {name : Name} → Holds s.Var name ts rest → IsKey ts (key (Var name) (Some name)) rest
+  key_variable : {ts rest : List Symbol} {name : Name} → IsHead s.Var name ts rest → IsKey ts (key (Var name) (Some name)) rest
   key_call : {ts rest : List Symbol} {a : Expr} → IsCall false ts a rest → IsKey ts (key a None) rest
   key_value : {ts us vs rest : List Symbol} {a : Expr} → Is s.Open ts us → IsExpr false us a vs → Is s.Close vs rest → IsKey ts (key a None) rest
-  key_named : {ts us vs ws xs rest : List Symbol} {a : Expr} {name : Name} → Is s.Open ts us → IsExpr false us a vs → Is s.As vs ws → Holds s.Var name ws xs
+  key_named : {ts us vs ws xs rest : List Symbol} {a : Expr} {name : Name} → Is s.Open ts us → IsExpr false us a vs → Is s.As vs ws → IsHead s.Var name ws xs
       → Is s.Close xs rest → IsKey ts (key a (Some name)) rest
 
 -- key*
@@ -86,7 +86,7 @@ pub data IsOrderKey : List Symbol → OrderKey → List Symbol → Type 0 where
   ascending : {ts us vs ws rest : List Symbol} {a : Expr} → Is s.Asc ts us → Is s.Open us vs → IsExpr true vs a ws → Is s.Close ws rest → IsOrderKey ts (ordered a false) rest
   descending : {ts us vs ws rest : List Symbol} {a : Expr} → Is s.Desc ts us → Is s.Open us vs → IsExpr true vs a ws → Is s.Close ws rest → IsOrderKey ts (ordered a true) rest
   order_constraint : {ts rest : List Symbol} {a : Expr} → IsConstraint true ts a rest → IsOrderKey ts (ordered a false) rest
-  order_variable : {ts rest : List Symbol} {name : Name} → Holds s.Var name ts rest → IsOrderKey ts (ordered (Var name) false) rest
+  order_variable : {ts rest : List Symbol} {name : Name} → IsHead s.Var name ts rest → IsOrderKey ts (ordered (Var name) false) rest
 
 -- order*
 pub data OrderTail : List Symbol → List OrderKey → List Symbol → Type 0 where
@@ -101,7 +101,7 @@ pub data IsOrdering : List Symbol → List OrderKey → List Symbol → Type 0 w
 
 -- INTEGER, of digits that write a number below 2^64
 pub data IsCount : List Symbol → ℕ → List Symbol → Type 0 where
-  count : {ts rest : List Symbol} {digits : List ℕ} → Holds s.Integer digits ts rest → are_digits digits ≡ true → digits_value digits < 2 ^ 64 → IsCount ts (digits_value digits) rest
+  count : {ts rest : List Symbol} {digits : List ℕ} → IsHead s.Integer digits ts rest → are_digits digits ≡ true → digits_value digits < 2 ^ 64 → IsCount ts (digits_value digits) rest
 
 -- 'LIMIT' INTEGER (SPARQL 1.1 19.8, LimitClause)
 pub data IsLimit : List Symbol → ℕ → List Symbol → Type 0 where

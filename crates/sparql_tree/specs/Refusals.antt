@@ -42,14 +42,14 @@ pub record AreSymbols (text : List ℕ) (symbols : List Symbol) : Type 0 where
   pub are_symbols : AreSymbolsOf (prefixes_of declarations) rest symbols
 
 -- the first cause of a refusal: the text's size, a place where no token begins, a token that is not answered, the nesting
-abbrev pub IsRefused : List ℕ → QueryFault → Type 0
-IsRefused text (faults.TooLarge sizes.Text) = 262144 < length text
-IsRefused text (faults.Lex at) = (length text ≤ 262144) × FaultAt text at
-IsRefused text (faults.Unsupported what) = IsUnsupported text what
-IsRefused text (faults.TooLarge sizes.Nesting) = IsTooDeep text
-IsRefused text _ = ⊥
+abbrev pub HasNoSymbols : List ℕ → QueryFault → Type 0
+HasNoSymbols text (faults.TooLarge sizes.Text) = 262144 < length text
+HasNoSymbols text (faults.Lex at) = (length text ≤ 262144) × FaultAt text at
+HasNoSymbols text (faults.Unsupported what) = IsUnsupported text what
+HasNoSymbols text (faults.TooLarge sizes.Nesting) = IsTooDeep text
+HasNoSymbols text _ = ⊥
 
 -- why there are no symbols: want of memory, or a refusal
-abbrev pub WhyNone : List ℕ → QueryFault → Type 0
-WhyNone text faults.Memory = Unit {0}
-WhyNone text fault = IsRefused text fault
+abbrev pub WhyNoSymbols : List ℕ → QueryFault → Type 0
+WhyNoSymbols text faults.Memory = Unit {0}
+WhyNoSymbols text fault = HasNoSymbols text fault

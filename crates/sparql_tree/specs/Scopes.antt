@@ -62,24 +62,24 @@ abbrev mutual
   rest_has_aggregate (ThenOperand inverse value rest) = has_aggregate value || rest_has_aggregate rest
 
 -- the variable at a place, if one stands there
-abbrev pub variable_at : Place → List Name
-variable_at (places.Var name) = name ∷ []
-variable_at (places.Blank label) = []
-variable_at (places.Term term) = []
+abbrev pub variable_in : Place → List Name
+variable_in (places.Var name) = name ∷ []
+variable_in (places.Blank label) = []
+variable_in (places.Term term) = []
 
 -- the label at a place, if one stands there
-abbrev pub label_at : Place → List Name
-label_at (places.Var name) = []
-label_at (places.Blank label) = label ∷ []
-label_at (places.Term term) = []
+abbrev pub label_in : Place → List Name
+label_in (places.Var name) = []
+label_in (places.Blank label) = label ∷ []
+label_in (places.Term term) = []
 
 -- the variables of a pattern: of its subject, its predicate and its object
 abbrev pub variables_in : Pattern → List Name
-variables_in p = variable_at p.subject ++ (variable_at p.predicate ++ variable_at p.object)
+variables_in p = variable_in p.subject ++ (variable_in p.predicate ++ variable_in p.object)
 
 -- the labels of a pattern
 abbrev pub labels_in : Pattern → List Name
-labels_in p = label_at p.subject ++ (label_at p.predicate ++ label_at p.object)
+labels_in p = label_in p.subject ++ (label_in p.predicate ++ label_in p.object)
 
 abbrev mutual
   -- the variables that are in scope of a part of a group: not those of MINUS and FILTER (SPARQL 1.1 18.2.1)

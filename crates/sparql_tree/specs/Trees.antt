@@ -4,7 +4,7 @@ use Rattle.sparql_tree.specs.Groups.{Query}
 use Rattle.sparql_tree.specs.declared.fault.QueryFault.{QueryFault}
 use Rattle.sparql_tree.specs.declared.fault.QueryFault.TheVariants as faults
 use Rattle.sparql_tree.specs.declared.symbol.Symbol.{Symbol}
-use Rattle.sparql_tree.specs.Refusals.{AreSymbols, IsRefused}
+use Rattle.sparql_tree.specs.Refusals.{AreSymbols, HasNoSymbols}
 use Rattle.sparql_tree.specs.Queries.{IsQuery}
 
 -- the text has symbols, and they spell the query
@@ -22,7 +22,7 @@ pub record SpellsNone (text : List ℕ) : Type 0 where
 -- the first cause of a refusal: one that comes before the grammar, or that no query is spelled
 abbrev pub HasNoTree : List ℕ → QueryFault → Type 0
 HasNoTree text faults.NotAQuery = SpellsNone text
-HasNoTree text fault = IsRefused text fault
+HasNoTree text fault = HasNoSymbols text fault
 
 -- why there is no tree: want of memory, or a refusal
 abbrev pub WhyNoTree : List ℕ → QueryFault → Type 0

@@ -10,7 +10,7 @@ use Rattle.term_core.specs.declared.term.Term.TheVariants as terms
 use Rattle.sparql_tree.specs.Groups.{Element, Triples}
 use Rattle.sparql_tree.specs.declared.symbol.Shape.TheVariants as s
 use Rattle.sparql_tree.specs.declared.symbol.Symbol.{Symbol}
-use Rattle.sparql_tree.specs.Heads.{Is, Holds}
+use Rattle.sparql_tree.specs.Heads.{Is, IsHead}
 use Rattle.sparql_tree.specs.Terms.{IsTerm}
 
 -- what the verb `a` means (SPARQL 1.1 4.2.4)
@@ -22,14 +22,14 @@ pattern subject predicate object = record { subject = subject; predicate = predi
 
 -- VAR | BLANK | term (SPARQL 1.1 19.8, VarOrTerm)
 pub data IsNode : List Symbol → Place → List Symbol → Type 0 where
-  node_variable : {ts rest : List Symbol} {name : Name} → Holds s.Var name ts rest → IsNode ts (places.Var name) rest
-  node_blank : {ts rest : List Symbol} {label : List ℕ} → Holds s.Blank label ts rest → IsNode ts (places.Blank label) rest
+  node_variable : {ts rest : List Symbol} {name : Name} → IsHead s.Var name ts rest → IsNode ts (places.Var name) rest
+  node_blank : {ts rest : List Symbol} {label : List ℕ} → IsHead s.Blank label ts rest → IsNode ts (places.Blank label) rest
   node_term : {ts rest : List Symbol} {term : Term} → IsTerm ts term rest → IsNode ts (places.Term term) rest
 
 -- VAR | iri | 'a' (SPARQL 1.1 19.8, Verb)
 pub data IsVerb : List Symbol → Place → List Symbol → Type 0 where
-  verb_variable : {ts rest : List Symbol} {name : Name} → Holds s.Var name ts rest → IsVerb ts (places.Var name) rest
-  verb_iri : {ts rest : List Symbol} {iri : List ℕ} → Holds s.Iri iri ts rest → IsVerb ts (places.Term (terms.Iri iri)) rest
+  verb_variable : {ts rest : List Symbol} {name : Name} → IsHead s.Var name ts rest → IsVerb ts (places.Var name) rest
+  verb_iri : {ts rest : List Symbol} {iri : List ℕ} → IsHead s.Iri iri ts rest → IsVerb ts (places.Term (terms.Iri iri)) rest
   verb_a : {ts rest : List Symbol} → Is s.IsA ts rest → IsVerb ts (places.Term (terms.Iri rdf_type)) rest
 
 -- (',' node)*, each with the subject and the verb (SPARQL 1.1 19.8, ObjectList)

@@ -6,7 +6,7 @@ use Rattle.term_core.specs.Mappings.{Name, Row}
 use Rattle.term_core.specs.declared.term.Term.{Term}
 use Rattle.sparql_tree.specs.declared.symbol.Shape.TheVariants as s
 use Rattle.sparql_tree.specs.declared.symbol.Symbol.{Symbol}
-use Rattle.sparql_tree.specs.Heads.{Is, Holds}
+use Rattle.sparql_tree.specs.Heads.{Is, IsHead}
 use Rattle.sparql_tree.specs.Terms.{IsTerm}
 
 -- a term, or UNDEF for none (SPARQL 1.1 19.8, DataBlockValue)
@@ -33,7 +33,7 @@ pub data OneRows (name : Name) : List Symbol → List Row → List Symbol → Ty
 -- VAR*
 pub data IsNames : List Symbol → List Name → List Symbol → Type 0 where
   names_end : {ts : List Symbol} → IsNames ts [] ts
-  names_more : {ts us rest : List Symbol} {name : Name} {more : List Name} → Holds s.Var name ts us → IsNames us more rest → IsNames ts (name ∷ more) rest
+  names_more : {ts us rest : List Symbol} {name : Name} {more : List Name} → IsHead s.Var name ts us → IsNames us more rest → IsNames ts (name ∷ more) rest
 
 -- ('(' cell* ')')*, with a cell for each name (SPARQL 1.1 19.8, InlineDataFull)
 pub data FullRows (names : List Name) : List Symbol → List Row → List Symbol → Type 0 where
@@ -43,7 +43,7 @@ pub data FullRows (names : List Name) : List Symbol → List Row → List Symbol
 
 -- VAR '{' cell* '}' | '(' VAR* ')' '{' ('(' cell* ')')* '}' (SPARQL 1.1 19.8, DataBlock)
 pub data IsValues : List Symbol → List Name → List Row → List Symbol → Type 0 where
-  values_one : {ts us vs ws rest : List Symbol} {name : Name} {rows : List Row} → Holds s.Var name ts us → Is s.OpenBrace us vs → OneRows name vs rows ws
+  values_one : {ts us vs ws rest : List Symbol} {name : Name} {rows : List Row} → IsHead s.Var name ts us → Is s.OpenBrace us vs → OneRows name vs rows ws
       → Is s.CloseBrace ws rest → IsValues ts (name ∷ []) rows rest
   values_full : {ts us vs ws xs ys rest : List Symbol} {names : List Name} {rows : List Row} → Is s.Open ts us → IsNames us names vs → Is s.Close vs ws → Is s.OpenBrace ws xs
       → FullRows names xs rows ys → Is s.CloseBrace ys rest → IsValues ts names rows rest

@@ -1,6 +1,6 @@
 use Rattle.std.proofs.Common.{◌≡◌, [], drop}
 use Rattle.pattern_query.specs.Query.{with_new}
-use Rattle.pattern_query.specs.QueryReading.{HasNames}
+use Rattle.sparql_tree.specs.NameSets.{HasNames}
 use Rattle.pattern_query.proofs.query_names.each_once.Given as goal
 
 abbrev pub invariant-loop-name : goal.invariant-loop-name

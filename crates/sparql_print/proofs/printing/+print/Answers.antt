@@ -3,7 +3,7 @@ use Rattle.std.proofs.lemmas.List.{take_all}
 use Rattle.sparql_tree.specs.Exprs.{exprs, operands}
 use Rattle.sparql_tree.specs.ExprTrees.{tree_of, trees_of, signs_of, factors_of}
 use Rattle.sparql_tree.proofs.ExprViews.{compare_view, one_of_view, sum_view, product_view}
-use Rattle.sparql_print.specs.ExprText.{expr_text, expr_texts, operands_text, spaced, in_parens, joined, list_text, sum_sign, product_sign}
+use Rattle.sparql_print.specs.ExprText.{expr_text, expr_texts, operands_text, spaced, in_parens, separated, list_text, sum_sign, product_sign}
 use Rattle.sparql_print.proofs.Texts.{opened_closed, opened_right, part_text, texts_are, signed_closed, factors_closed, on_ok}
 use Rattle.sparql_print.proofs.printing.+print.Goals as goal
 
@@ -57,7 +57,7 @@ push_expr-returns-in_ok-push_opened-in-Product t c =
 
 pub push_joined-returns : goal.push_joined-returns
 push_joined-returns t c =
-    c.loop-i.invariant ∙ ap (λ ts. string_bytes c.args.out.now ++ joined c.args.sign.now ts) (ap (map part_text) (take_all c.loop-i.i c.args.parts.now (omega (arith, c.loop-i-test.false))) ∙ sym (texts_are c.args.parts.now))
+    c.loop-i.invariant ∙ ap (λ ts. string_bytes c.args.out.now ++ separated c.args.sign.now ts) (ap (map part_text) (take_all c.loop-i.i c.args.parts.now (omega (arith, c.loop-i-test.false))) ∙ sym (texts_are c.args.parts.now))
 
 pub push_signed-returns : goal.push_signed-returns
 push_signed-returns t c =
