@@ -6,9 +6,11 @@ use Rattle.sage.specs.declared.refusal.Refusal.TheVariants as refusals
 use Rattle.sage.specs.World.{SinkState}
 use Rattle.sage.specs.Data.{data_message}
 
+-- what a command that ended well tells standard error, or why it was refused
 abbrev pub Ending : Type 0
 Ending = Result (List ℕ) Refusal
 
+-- the status that the program ends with
 abbrev pub status_of : Ending → ℕ
 status_of (Ok told) = 0
 status_of (Err refusals.Memory) = 1
@@ -19,9 +21,11 @@ status_of (Err refusals.NotAStore) = 5
 status_of (Err refusals.Query) = 6
 status_of (Err refusals.Output) = 9
 
+-- the line for a file that is not read or written
 abbrev pub file_message : List ℕ → List ℕ
 file_message name = codes "sage: file " ++ (name ++ 10 ∷ [])
 
+-- what standard error is told
 abbrev pub message_of : Ending → List ℕ
 message_of (Ok told) = told
 message_of (Err refusals.Memory) = codes "sage: memory\n"

@@ -13,8 +13,8 @@ use std::alloc::Global;
 /// rules of the language (sections 10.2, 11.4, 18.2.1 and 19.6).
 ///
 /// Of the causes of a refusal the first in this order is given: those of `read_tree`, which are
-/// `TooLarge(Size::Text)`, `Lex`, `Unsupported`, `TooLarge(Size::Nesting)` and `NotAQuery`; then `Scope`, where a rule is broken, with the name at the first place in the text that
-/// breaks one.
+/// `TooLarge(Size::Text)`, `Lex`, `Unsupported`, `TooLarge(Size::Nesting)` and `NotAQuery`; then
+/// `Scope`, where a rule is broken, with the name at the first place in the text that breaks one.
 ///
 /// The time is linear in the text and in the texts that the tree holds, each name its whole IRI and each
 /// triple its own subject, but for look-ups of prefixes, variables and labels in a tree.

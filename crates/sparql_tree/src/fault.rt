@@ -33,7 +33,9 @@ pub enum QueryFault {
     NotAQuery,
     /// The first breach of a rule on scopes, at `?name`, `_:label` or `*`.
     Scope { variable: Text },
-    /// The allocator had no room. No other answer depends on the memory at hand.
+    /// The allocator had no room; or what the text abbreviates (prefixes, and subjects, verbs and variables that are
+    /// written once and held again) would take more than 2^30 bytes past those of the text, which is not tried.
+    /// No other answer depends on the memory at hand.
     Memory,
 }
 

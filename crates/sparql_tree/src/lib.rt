@@ -1,5 +1,7 @@
 //! Trees of queries and of the algebra of SPARQL 1.1, and what solutions in a data set are:
-//! definitions, and laws over them.
+//! definitions, and laws over them. Which texts are queries, of which tree, and why others are
+//! refused is defined here too: `Accepted` and, below it, `Symbols`, `Queries`, `Refusals` and
+//! `Breaches` in `specs/`.
 #![tactic(auto)]
 
 mod algebra;
