@@ -1,5 +1,5 @@
 -- Escapes undone from left to right, character by character (SPARQL 1.1, 19.2 and 19.8).
-use Rattle.std.specs.Prelude.{ℕ, Bool, ◌+◌, ◌-◌, ◌*◌, ◌^◌, min, nat_lt, nat_le, not, ◌&&◌, ◌||◌, ◌==◌, List, [], ◌∷◌, Option, Some, None, if◌then◌else◌}
+use Rattle.std.specs.Prelude.{ℕ, ◌+◌, ◌-◌, ◌*◌, ◌^◌, min, nat_lt, nat_le, ◌==◌, List, [], ◌∷◌, Option, Some, None, if◌then◌else◌}
 use Rattle.std.specs.Char.{digit_value}
 use Rattle.term_core.specs.Characters.{is_scalar}
 use Rattle.term_core.specs.Escapes.{echar_value}

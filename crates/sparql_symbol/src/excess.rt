@@ -4,8 +4,10 @@
 //! subject and verb, though before `;` and `,` they are written once (section 4.2). Each term of a table
 //! holds the name of its variable (section 10.2).
 
-ghost use Rattle.std.specs.Prelude.{All};
-ghost use Rattle.sparql_symbol.specs.Reading.{StandsIn};
+ghost use Rattle.std.specs.Prelude.{◌≡◌, All, length};
+ghost use Rattle.sparql_symbol.specs.Excess as spec;
+ghost use Rattle.sparql_symbol.specs.Names.{iri_of};
+ghost use Rattle.sparql_symbol.specs.Reading.{StandsIn, before_colon};
 
 use crate::parts::{spelling, split_colon};
 use crate::prefixes::Prefixes;
@@ -50,7 +52,9 @@ struct Passed {
 }
 
 /// What a token is to the grammar, whatever its prefix stands for.
-fn shape_of(kind: Kind, text: &[u8]) -> Shape {
+fn shape_of(kind: Kind, text: &[u8]) -> Shape
+    ensures { result ≡ spec.shape_of kind text.now }
+{
     match kind {
         Kind::Iri | Kind::PName => Shape::Iri,
         Kind::Blank => Shape::Blank,
@@ -71,7 +75,9 @@ fn shape_of(kind: Kind, text: &[u8]) -> Shape {
     }
 }
 
-fn is_term(shape: Shape) -> bool {
+fn is_term(shape: Shape) -> bool
+    ensures { result ≡ spec.is_term shape }
+{
     matches!(
         shape,
         Shape::Iri
@@ -85,21 +91,30 @@ fn is_term(shape: Shape) -> bool {
     )
 }
 
-/// The bytes of the IRI that a name's prefix stands for.
-fn prefix_bytes(prefixes: &Prefixes<'_>, kind: Kind, text: &str) -> usize {
+/// The bytes of the IRI that the prefix of a name stands for.
+fn named_bytes(prefixes: &Prefixes<'_>, text: &str) -> usize
+    ensures { result ≡ spec.bytes_of (iri_of prefixes.now (before_colon text.now)) }
+{
+    let (prefix, _) = split_colon(text);
+    match prefixes.get(prefix) {
+        Some(iri) => iri.bytes().len(),
+        None => 0,
+    }
+}
+
+/// The bytes of the IRI that stands for a token's prefix.
+fn prefix_bytes(prefixes: &Prefixes<'_>, kind: Kind, text: &str) -> usize
+    ensures { result ≡ spec.prefix_bytes (iri_of prefixes.now) kind text.now }
+{
     match kind {
-        Kind::PName => {
-            let (prefix, _) = split_colon(text);
-            match prefixes.get(prefix) {
-                Some(iri) => iri.bytes().len(),
-                None => 0,
-            }
-        }
+        Kind::PName => named_bytes(prefixes, text),
         _ => 0,
     }
 }
 
-fn parentheses_behind(parentheses: usize, shape: Shape) -> usize {
+fn parentheses_behind(parentheses: usize, shape: Shape) -> usize
+    ensures { result ≡ spec.parentheses_behind parentheses shape }
+{
     match shape {
         Shape::Open => parentheses.saturating_add(1),
         Shape::Close => parentheses.saturating_sub(1),
@@ -107,7 +122,9 @@ fn parentheses_behind(parentheses: usize, shape: Shape) -> usize {
     }
 }
 
-fn no_triples() -> Triples {
+fn no_triples() -> Triples
+    ensures { result ≡ spec.no_triples }
+{
     Triples {
         terms: 0,
         subject: 0,
@@ -115,7 +132,9 @@ fn no_triples() -> Triples {
     }
 }
 
-fn with_term(triples: Triples, bytes: usize) -> Triples {
+fn with_term(triples: Triples, bytes: usize) -> Triples
+    ensures { result ≡ spec.with_term triples bytes }
+{
     match triples.terms {
         0 => Triples {
             terms: 1,
@@ -131,7 +150,9 @@ fn with_term(triples: Triples, bytes: usize) -> Triples {
     }
 }
 
-fn triples_behind(triples: Triples, shape: Shape, bytes: usize) -> Triples {
+fn triples_behind(triples: Triples, shape: Shape, bytes: usize) -> Triples
+    ensures { result ≡ spec.triples_behind triples shape bytes }
+{
     match shape {
         Shape::OpenBrace | Shape::CloseBrace | Shape::Point | Shape::Close => no_triples(),
         Shape::Semicolon => Triples {
@@ -149,47 +170,63 @@ fn triples_behind(triples: Triples, shape: Shape, bytes: usize) -> Triples {
     }
 }
 
-/// A table behind a token at this place. A datatype stands in the column of its literal.
-fn within_table(table: Table, at: usize, shape: Shape) -> Table {
-    let Table {
-        first,
-        wide,
-        rows,
+/// The table at another column.
+fn at_column(table: Table, column: usize) -> Table
+    ensures { result ≡ spec.at_column table column }
+{
+    Table {
+        first: table.first,
+        wide: table.wide,
+        rows: table.rows,
         column,
-    } = table;
-    match shape {
-        Shape::Open => Table {
-            first: if rows { first } else { at.saturating_add(1) },
-            wide: true,
-            rows,
-            column: 0,
-        },
-        Shape::OpenBrace => Table {
-            first,
-            wide,
-            rows: true,
-            column: 0,
-        },
-        Shape::Typed => Table {
-            first,
-            wide,
-            rows,
-            column: column.saturating_sub(1),
-        },
-        _ => Table {
-            first,
-            wide,
-            rows,
-            column: if rows && wide && (is_term(shape) || matches!(shape, Shape::Undef)) {
-                column.saturating_add(1)
-            } else {
-                column
-            },
-        },
     }
 }
 
-fn table_behind(table: Option<Table>, at: usize, shape: Shape) -> Option<Table> {
+/// Whether a token fills a column of the table: a term or `UNDEF`, in rows that have columns.
+fn fills_column(table: Table, shape: Shape) -> bool
+    ensures { result ≡ spec.fills_column table shape }
+{
+    match shape {
+        Shape::Undef => table.rows && table.wide,
+        _ => table.rows && table.wide && is_term(shape),
+    }
+}
+
+/// A table behind a token at this place. A datatype stands in the column of its literal.
+fn within_table(table: Table, at: usize, shape: Shape) -> Table
+    ensures { result ≡ spec.within_table table at shape }
+{
+    match shape {
+        Shape::Open => Table {
+            first: if table.rows {
+                table.first
+            } else {
+                at.saturating_add(1)
+            },
+            wide: true,
+            rows: table.rows,
+            column: 0,
+        },
+        Shape::OpenBrace => Table {
+            first: table.first,
+            wide: table.wide,
+            rows: true,
+            column: 0,
+        },
+        Shape::Typed => at_column(table, table.column.saturating_sub(1)),
+        _ => {
+            if fills_column(table, shape) {
+                at_column(table, table.column.saturating_add(1))
+            } else {
+                table
+            }
+        }
+    }
+}
+
+fn table_behind(table: Option<Table>, at: usize, shape: Shape) -> Option<Table>
+    ensures { result ≡ spec.table_behind table at shape }
+{
     match shape {
         Shape::Values => Some(Table {
             first: at.saturating_add(1),
@@ -205,7 +242,9 @@ fn table_behind(table: Option<Table>, at: usize, shape: Shape) -> Option<Table> 
     }
 }
 
-fn behind(before: Passed, at: usize, shape: Shape, bytes: usize) -> Passed {
+fn behind(before: Passed, at: usize, shape: Shape, bytes: usize) -> Passed
+    ensures { result ≡ spec.behind before at shape bytes }
+{
     Passed {
         parentheses: parentheses_behind(before.parentheses, shape),
         triples: triples_behind(before.triples, shape, bytes),
@@ -213,8 +252,20 @@ fn behind(before: Passed, at: usize, shape: Shape, bytes: usize) -> Passed {
     }
 }
 
+fn nothing_passed() -> Passed
+    ensures { result ≡ spec.nothing_passed }
+{
+    Passed {
+        parentheses: 0,
+        triples: no_triples(),
+        table: None,
+    }
+}
+
 /// The bytes of the variable that a term of a table is of.
-fn variable_bytes(tokens: &[Token], table: Table, shape: Shape) -> usize {
+fn variable_bytes(tokens: &[Token], table: Table, shape: Shape) -> usize
+    ensures { result ≡ spec.variable_bytes tokens.now table shape }
+{
     if !(table.rows && is_term(shape)) {
         return 0;
     }
@@ -224,18 +275,30 @@ fn variable_bytes(tokens: &[Token], table: Table, shape: Shape) -> usize {
     }
 }
 
-/// The bytes of what has come before, as far as they are held again at a token.
-fn again(tokens: &[Token], before: Passed, shape: Shape) -> usize {
-    if let Some(table) = before.table {
-        return variable_bytes(tokens, table, shape);
-    }
-    if before.parentheses > 0 {
-        return 0;
-    }
+/// The bytes of the subject and the verb in force, as far as they are held again at a token.
+fn held_by_triples(triples: Triples, shape: Shape) -> usize
+    ensures { result ≡ spec.held_by_triples triples shape }
+{
     match shape {
-        Shape::Comma => before.triples.subject.saturating_add(before.triples.verb),
-        Shape::Semicolon => before.triples.subject,
+        Shape::Comma => triples.subject.saturating_add(triples.verb),
+        Shape::Semicolon => triples.subject,
         _ => 0,
+    }
+}
+
+/// The bytes of what has come before, as far as they are held again at a token.
+fn held_again(tokens: &[Token], before: Passed, shape: Shape) -> usize
+    ensures { result ≡ spec.held_again tokens.now before shape }
+{
+    match before.table {
+        Some(table) => variable_bytes(tokens, table, shape),
+        None => {
+            if before.parentheses > 0 {
+                0
+            } else {
+                held_by_triples(before.triples, shape)
+            }
+        }
     }
 }
 
@@ -243,21 +306,17 @@ fn again(tokens: &[Token], before: Passed, shape: Shape) -> usize {
 /// the text, but for the look-up of prefixes in a map, and nothing is allocated.
 pub fn is_excessive(text: &str, tokens: &[Token], prefixes: &Prefixes<'_>) -> bool
     requires { All (StandsIn text.now) tokens.now }
+    ensures { result ≡ spec.is_excessive (iri_of prefixes.now) text.now tokens.now }
 {
-    let mut before = Passed {
-        parentheses: 0,
-        triples: no_triples(),
-        table: None,
-    };
+    let mut before = nothing_passed();
     let mut excess: usize = 0;
     let mut at: usize = 0;
     for token in tokens {
         let written = spelling(text, *token);
         let shape = shape_of(token.kind, written.as_bytes());
         let more = prefix_bytes(prefixes, token.kind, written);
-        excess = excess
-            .saturating_add(more)
-            .saturating_add(again(tokens, before, shape));
+        let held = held_again(tokens, before, shape);
+        excess = excess.saturating_add(more).saturating_add(held);
         before = behind(before, at, shape, written.len().saturating_add(more));
         at = at.saturating_add(1);
     }
