@@ -11,9 +11,9 @@ ghost use Rattle.sparql_tree.specs.Bgp.{is_variable};
 ghost use Rattle.term_core.specs.Patterns.{names_in, pattern_of};
 ghost use Rattle.pattern_query.specs.Query.{IsPatternQuery, variables_at, variables_of, is_keyword};
 ghost use Rattle.pattern_query.specs.QueryReading.{
-  Reads,
+  ReadsAs,
   place_at,
-  object_at,
+  object_place,
   is_end,
   group_at,
   body_at,
