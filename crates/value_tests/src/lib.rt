@@ -1,0 +1,2 @@
+//! Values of terms, each run. It has tests alone.
+#![tactic(auto)]
