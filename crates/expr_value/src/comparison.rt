@@ -1,14 +1,33 @@
 //! Equality and less.
 
-ghost use Rattle.std.specs.Prelude.{◌≡◌};
+ghost use Rattle.std.specs.Prelude.{◌≡◌, IsTrue};
 ghost use Rattle.std.specs.Result.{result_ok};
+ghost use Rattle.term_core.specs.Numbers.{is_kept, compared};
 ghost use Rattle.value_table.specs.Values as values;
+ghost use Rattle.xsd_num.specs.Values.{number_of};
 ghost use Rattle.expr_value.specs.Views.{value_in, IsKeptValue};
 
 use crate::value::{NoValue, Value, value_of};
 use std::cmp::Ordering;
 use term_core::{Term, compare};
-use xsd_num::cmp;
+use xsd_num::law::numbers_are_in_order;
+use xsd_num::{Num, cmp};
+
+/// The order of two numbers by value. Two integers, which are most of what is compared, are so as
+/// they stand.
+fn compare_numbers(a: &Num, b: &Num) -> Ordering
+    requires a_kept { IsTrue (is_kept (number_of a.now)) }
+    requires b_kept { IsTrue (is_kept (number_of b.now)) }
+    ensures { result ≡ compared (number_of a.now) (number_of b.now) }
+{
+    match (a, b) {
+        (Num::Whole(a), Num::Whole(b)) => {
+            numbers_are_in_order();
+            a.cmp(b)
+        }
+        _ => cmp(*a, *b),
+    }
+}
 
 /// The order of two values: numbers by value, truth values with false first, strings without a tag
 /// by code points (SPARQL 1.1, section 17.3). None exactly where they are not both of one of these
@@ -19,7 +38,7 @@ pub fn compare_values(a: &Value, b: &Value) -> Option<Ordering>
     ensures { result ≡ values.value_cmp (value_in a.now) (value_in b.now) }
 {
     match (a, b) {
-        (Value::Numeric(a), Value::Numeric(b)) => Some(cmp(*a, *b)),
+        (Value::Numeric(a), Value::Numeric(b)) => Some(compare_numbers(a, b)),
         (Value::Logical(a), Value::Logical(b)) => Some(a.cmp(b)),
         (Value::Simple(a), Value::Simple(b)) => Some(a.cmp(b)),
         _ => None,
