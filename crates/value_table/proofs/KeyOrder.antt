@@ -1,5 +1,6 @@
 -- The order of keys is total: it compares parts one after the other, of which each class of keys fills its own alone.
-use Rattle.std.proofs.Common.{◌≡◌, refl, sym, ap, ◌∙◌, subst, ⊎_elim, ℕ, List, [], Bool, true, false, pos, Option, Some, None, Less, Equal, Greater}
+use Rattle.std.proofs.Common.{◌≡◌, refl, sym, ap, ◌∙◌, subst, ⊎_elim}
+use Rattle.std.proofs.Common.{ℕ, List, [], Bool, true, false, pos, Option, Some, None, Less, Equal, Greater}
 use Rattle.std.specs.Prelude.{◌↔◌, option_map}
 use Rattle.std.specs.Ordering.{ordering_then, ordering_reverse, then_cmp, on, nat_cmp, bool_cmp, is_eq}
 use Rattle.std.specs.Option.{option_cmp}

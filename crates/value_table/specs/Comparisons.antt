@@ -21,11 +21,11 @@ abbrev pub at_least : Term → Term → Option Bool
 at_least a b = option_map not (less a b)
 
 -- what a < b, a = b and b < a answer
-pub record Answers (a b : Term) (is_less is_equal is_greater : Bool) : Type 0 where
+pub record ComparesAs (a b : Term) (is_less is_equal is_greater : Bool) : Type 0 where
   pub below : less a b ≡ Some is_less
   pub level : equal a b ≡ Some is_equal
   pub above : less b a ≡ Some is_greater
 
 -- exactly one of a < b, a = b and b < a is true, and none is an error
 abbrev pub IsOneOfThree : Term → Term → Type 0
-IsOneOfThree a b = Answers a b true false false ⊎ (Answers a b false true false ⊎ Answers a b false false true)
+IsOneOfThree a b = ComparesAs a b true false false ⊎ (ComparesAs a b false true false ⊎ ComparesAs a b false false true)

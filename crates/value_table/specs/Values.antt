@@ -1,6 +1,7 @@
 -- What a term is to the operators: its value, its truth, equality and less (SPARQL 1.1, sections 17.2 to 17.4.1).
 -- A table has one line a rule; None stands for the error.
-use Rattle.std.specs.Prelude.{ℕ, unsigned_abs, Bool, true, false, not, ◌||◌, ◌&&◌, ◌==◌, if◌then◌else◌, codes, List, Option, Some, None, option_map}
+use Rattle.std.specs.Prelude.{ℕ, unsigned_abs, Bool, true, false, not, ◌||◌, ◌&&◌, ◌==◌, if◌then◌else◌}
+use Rattle.std.specs.Prelude.{codes, List, Option, Some, None, option_map}
 use Rattle.std.specs.Ordering.{is_lt, is_eq, bool_cmp}
 use Rattle.std.specs.declared.cmp.Ordering.{Ordering}
 use Rattle.std.specs.Str.{bytes_eq}
@@ -89,7 +90,7 @@ truth_of_value Resource = None
 abbrev pub truth : Term → Option Bool
 truth t = truth_of_value (value_of t)
 
--- two numbers by value (SPARQL 1.1, section 17.3)
+-- a number against a value: two numbers are compared by value (SPARQL 1.1, section 17.3)
 abbrev pub against_number : Number → Value → Option Ordering
 against_number a (Numeric b) = Some (compared a b)
 against_number a WideNumber = None
@@ -100,7 +101,7 @@ against_number a (Tagged text tag) = None
 against_number a Opaque = None
 against_number a Resource = None
 
--- two truth values, false first (SPARQL 1.1, section 17.3)
+-- a truth value against a value: of two truth values false comes first (SPARQL 1.1, section 17.3)
 abbrev pub against_boolean : Bool → Value → Option Ordering
 against_boolean a (Numeric number) = None
 against_boolean a WideNumber = None
@@ -111,7 +112,7 @@ against_boolean a (Tagged text tag) = None
 against_boolean a Opaque = None
 against_boolean a Resource = None
 
--- two strings by code points (SPARQL 1.1, section 17.3)
+-- a string against a value: two strings are compared by code points, which is by bytes (SPARQL 1.1, section 17.3)
 abbrev pub against_string : List ℕ → Value → Option Ordering
 against_string a (Numeric number) = None
 against_string a WideNumber = None
@@ -122,7 +123,7 @@ against_string a (Tagged text tag) = None
 against_string a Opaque = None
 against_string a Resource = None
 
--- the order of two values of one class that has an order, and of no others
+-- the order of two values of one class that has an order: numbers, truth values or strings without a tag; and of no others
 abbrev pub value_cmp : Value → Value → Option Ordering
 value_cmp (Numeric a) b = against_number a b
 value_cmp WideNumber b = None

@@ -26,6 +26,7 @@ pub fn less_is_an_order()
     ensures turned { (a b : Term) → (less a b ≡ None) ↔ (less b a ≡ None) }
     ensures chained { (a b c : Term) → less a b ≡ Some true → less b c ≡ Some true → less a c ≡ Some true }
     ensures alike { (a b c : Term) → equal a b ≡ Some true → less a c ≡ less b c }
+    ensures alike_right { (a b c : Term) → equal a b ≡ Some true → less c a ≡ less c b }
 {}
 
 /// The other comparisons (SPARQL 1.1, section 17.3): `<=` is true where `<` or `=` is, and `>=`

@@ -1,4 +1,4 @@
-use Rattle.value_table.proofs.Less.{one_of_three, less_chain, less_alike}
+use Rattle.value_table.proofs.Less.{one_of_three, less_chain, less_alike, less_alike_right}
 use Rattle.value_table.proofs.Comparing.{untold_back}
 use Rattle.value_table.proofs.law.less_is_an_order.Goals as goal
 
@@ -13,3 +13,6 @@ returns-clause-chained c = less_chain
 
 pub returns-clause-alike : goal.returns-clause-alike
 returns-clause-alike c = less_alike
+
+pub returns-clause-alike_right : goal.returns-clause-alike_right
+returns-clause-alike_right c = less_alike_right
