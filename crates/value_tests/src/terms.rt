@@ -87,7 +87,7 @@ fn truth_letter(truth: Result<bool, NoValue>) -> &'static str {
     match truth {
         Ok(true) => "t",
         Ok(false) => "f",
-        Err(NoValue) => "e",
+        Err(_) => "e",
     }
 }
 
@@ -128,9 +128,9 @@ fn sign(
         (Ok(false), Ok(true), Ok(false)) => b'<',
         (Ok(true), Ok(false), Ok(false)) => b'=',
         (Ok(false), Ok(false), Ok(true)) => b'>',
-        (Ok(true), Err(NoValue), Err(NoValue)) => b's',
-        (Ok(false), Err(NoValue), Err(NoValue)) => b'x',
-        (Err(NoValue), Err(NoValue), Err(NoValue)) => b'e',
+        (Ok(true), Err(_), Err(_)) => b's',
+        (Ok(false), Err(_), Err(_)) => b'x',
+        (Err(_), Err(_), Err(_)) => b'e',
         _ => b'?',
     }
 }
