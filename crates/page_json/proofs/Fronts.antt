@@ -18,7 +18,7 @@ use Rattle.serde_json.specs.Data.{Data, Members, member}
 use Rattle.serde_json.specs.Find.{as_object}
 use Rattle.serde_json.specs.View.{view, members_view}
 use Rattle.serde_json.specs.declared.value.Value.{Value}
-use Rattle.page_json.specs.Reading.{first_value, are_none}
+use Rattle.page_json.specs.Reading.{value_in_front, are_none}
 use Rattle.page_json.specs.Reading.{found_term, found_entries, found_row}
 
 -- a name with its value
@@ -32,13 +32,13 @@ tested false a = refl
 -- ---- the first member
 
 pub first_named : (es : List Entry) (key : String Global) (v : Value) (name : List ℕ) → slice_get es 0 ≡ Some (key, v)
-    → bytes_eq (string_bytes key) name ≡ is_some (first_value name (members_view es))
+    → bytes_eq (string_bytes key) name ≡ is_some (value_in_front name (members_view es))
 first_named [] key v name e = absurd (cc)
 first_named (x ∷ es) key v name e =
     let same : x ≡ (key, v) = same_Some x (key, v) e in
     ap (λ (p : Entry). bytes_eq (string_bytes p.0) name) (sym same) ∙ tested (bytes_eq (string_bytes x.0) name) (view x.1)
 
-pub none_first : (es : List Entry) (name : List ℕ) → length es ≡ 0 → is_some (first_value name (members_view es)) ≡ false
+pub none_first : (es : List Entry) (name : List ℕ) → length es ≡ 0 → is_some (value_in_front name (members_view es)) ≡ false
 none_first [] name e = refl
 none_first (x ∷ es) name e = absurd (omega arith)
 

@@ -13,7 +13,7 @@ use Rattle.page_json.specs.declared.reply.PageReply.{PageReply}
 use Rattle.page_json.specs.declared.reply.PageReply.TheVariants.{Rows, Refused}
 use Rattle.page_json.specs.Terms.{RowsAreTagged}
 use Rattle.page_json.specs.Replies.{text_items, reply_json, HasPlanText, IsInRange, LiteralsAreTagged}
-use Rattle.page_json.specs.Reading.{first_value, behind_first, are_none, text_member, found_texts, found_rows, found_next, found_steps}
+use Rattle.page_json.specs.Reading.{value_in_front, members_behind, are_none, text_member, found_texts, found_rows, found_next, found_steps}
 use Rattle.page_json.specs.Reading.{PageMembers, page_members, found_page, found_refusal, reply_by_members, found_reply, Shape, page_shape}
 use Rattle.page_json.specs.Reading.{refusal_shape}
 use Rattle.page_json.specs.Views.{rows_entries, reply_shape}
@@ -71,17 +71,17 @@ AreFour ms p = (ms ≡ four_members p.next p.rows p.steps p.variables) × (p.ste
 -- one after the other
 members_sound : (ms : Members) (p : PageMembers) → page_members ms ≡ Some p → AreFour ms p
 members_sound ms p e =
-    let n = some_from _ (first_value (codes "next") ms) p e in
-    let a = behind_first (codes "next") ms in
-    let rd = some_from _ (option_and_then as_array (first_value (codes "rows") a)) p n.2 in
-    let b = behind_first (codes "rows") a in
-    let sd = some_from _ (option_and_then found_steps (first_value (codes "steps") b)) p rd.2 in
-    let c = behind_first (codes "steps") b in
-    let vd = some_from _ (option_and_then as_array (first_value (codes "vars") c)) p sd.2 in
-    let last = if_some (are_none (behind_first (codes "vars") c)) _ p vd.2 in
-    let r = some_from as_array (first_value (codes "rows") a) rd.0 rd.1 in
-    let s = some_from found_steps (first_value (codes "steps") b) sd.0 sd.1 in
-    let v = some_from as_array (first_value (codes "vars") c) vd.0 vd.1 in
+    let n = some_from _ (value_in_front (codes "next") ms) p e in
+    let a = members_behind (codes "next") ms in
+    let rd = some_from _ (option_and_then as_array (value_in_front (codes "rows") a)) p n.2 in
+    let b = members_behind (codes "rows") a in
+    let sd = some_from _ (option_and_then found_steps (value_in_front (codes "steps") b)) p rd.2 in
+    let c = members_behind (codes "steps") b in
+    let vd = some_from _ (option_and_then as_array (value_in_front (codes "vars") c)) p sd.2 in
+    let last = if_some (are_none (members_behind (codes "vars") c)) _ p vd.2 in
+    let r = some_from as_array (value_in_front (codes "rows") a) rd.0 rd.1 in
+    let s = some_from found_steps (value_in_front (codes "steps") b) sd.0 sd.1 in
+    let v = some_from as_array (value_in_front (codes "vars") c) vd.0 vd.1 in
     let steps = steps_sound s.0 sd.0 s.2 in
     let end = first_shape (codes "vars") v.0 c v.1 ∙ ap₂ (member (codes "vars")) (array_shape v.0 vd.0 v.2) (none_left _ last.0) in
     let from_steps = first_shape (codes "steps") s.0 b s.1 ∙ ap₂ (member (codes "steps")) steps.0 end in
@@ -134,7 +134,7 @@ refusal_sound : (ms : Members) (name : List ℕ) → found_refusal ms ≡ Some (
 unfolding shape_name
 refusal_sound ms name e =
     let n = some_from _ (text_member (codes "error") ms) (refusal_shape name) e in
-    let p = if_some (are_none (behind_first (codes "error") ms)) _ (refusal_shape name) n.2 in
+    let p = if_some (are_none (members_behind (codes "error") ms)) _ (refusal_shape name) n.2 in
     let only = ap₂ (λ s rest. member (codes "error") (string s) rest) (ap shape_name p.1) (none_left _ p.0) in
     ap object (text_shape (codes "error") n.0 ms n.1 ∙ only)
 
@@ -144,7 +144,7 @@ members_are_formed true ms (Refused name) e = (refusal_sound ms name e, tt)
 members_are_formed false ms (Rows variables rows next steps) e = page_sound ms variables rows next steps e
 members_are_formed true ms (Rows variables rows next steps) e =
     let n = some_from _ (text_member (codes "error") ms) (reply_shape (Rows variables rows next steps)) e in
-    let p = if_some (are_none (behind_first (codes "error") ms)) _ (reply_shape (Rows variables rows next steps)) n.2 in
+    let p = if_some (are_none (members_behind (codes "error") ms)) _ (reply_shape (Rows variables rows next steps)) n.2 in
     absurd (let q = p.1 in cc)
 members_are_formed false ms (Refused name) e =
     let p = some_from found_page (page_members ms) (refusal_shape name) e in

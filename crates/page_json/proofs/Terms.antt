@@ -14,7 +14,7 @@ use Rattle.serde_json.specs.Data.{Data, string, object, Items, no_items, item, M
 use Rattle.serde_json.specs.Find.{as_str, as_object}
 use Rattle.page_json.specs.Terms.{kind_and_value, typed_members, term_json, row_members, row_items}
 use Rattle.page_json.specs.Terms.{IsTaggedAsTyped, EntriesAreTagged, RowsAreTagged}
-use Rattle.page_json.specs.Reading.{first_value, behind_first, are_none, text_member, typed_term, tagged_term, kinded_term}
+use Rattle.page_json.specs.Reading.{value_in_front, members_behind, are_none, text_member, typed_term, tagged_term, kinded_term}
 use Rattle.page_json.specs.Reading.{term_by_type, found_term, found_entries, found_row, found_rows}
 use Rattle.page_json.specs.Views.{rows_entries}
 use Rattle.page_json.proofs.Fronts.{some_from, some_map}
@@ -94,8 +94,8 @@ tagged_sound kind text (b ∷ tag) t is =
     (known_kind kind (codes "literal") text (tag_member (b ∷ tag)) p.0, refl)
 
 kinded_sound : (datatype tag : Option Data) (kind text : List ℕ) (ms more : Members) (t : Term)
-    → first_value (codes "datatype") ms ≡ datatype → first_value (codes "xml:lang") more ≡ tag
-    → behind_first (codes "datatype") ms ≡ kind_and_value kind text more → behind_first (codes "xml:lang") more ≡ no_members
+    → value_in_front (codes "datatype") ms ≡ datatype → value_in_front (codes "xml:lang") more ≡ tag
+    → members_behind (codes "datatype") ms ≡ kind_and_value kind text more → members_behind (codes "xml:lang") more ≡ no_members
     → kinded_term kind text datatype tag ≡ Some t → IsFormed ms t
 kinded_sound None None kind text ms more t d l is last e =
     let none : more ≡ no_members = sym (first_none (codes "xml:lang") more l) ∙ last in
@@ -120,13 +120,13 @@ kinded_sound (Some dd) (Some ll) kind text ms more t d l is last e = absurd (cc)
 
 term_sound : (d : Data) (t : Term) → found_term d ≡ Some t → (d ≡ term_json t) × IsTaggedAsTyped t
 term_sound d t e =
-    let o = some_from (λ ms. term_by_type (first_value (codes "datatype") ms) (behind_first (codes "datatype") ms)) (as_object d) t e in
-    let ms = behind_first (codes "datatype") o.0 in
+    let o = some_from (λ ms. term_by_type (value_in_front (codes "datatype") ms) (members_behind (codes "datatype") ms)) (as_object d) t e in
+    let ms = members_behind (codes "datatype") o.0 in
     let k = some_from _ (text_member (codes "type") ms) t o.2 in
-    let v = some_from _ (text_member (codes "value") (behind_first (codes "type") ms)) t k.2 in
-    let more = behind_first (codes "value") (behind_first (codes "type") ms) in
-    let p = if_only (are_none (behind_first (codes "xml:lang") more)) _ t v.2 in
-    let value = text_shape (codes "value") v.0 (behind_first (codes "type") ms) v.1 in
+    let v = some_from _ (text_member (codes "value") (members_behind (codes "type") ms)) t k.2 in
+    let more = members_behind (codes "value") (members_behind (codes "type") ms) in
+    let p = if_only (are_none (members_behind (codes "xml:lang") more)) _ t v.2 in
+    let value = text_shape (codes "value") v.0 (members_behind (codes "type") ms) v.1 in
     let both : ms ≡ kind_and_value k.0 v.0 more = text_shape (codes "type") k.0 ms k.1 ∙ ap (member (codes "type") (string k.0)) value in
     let f = kinded_sound _ _ k.0 v.0 o.0 more t refl refl both (none_left _ p.0) p.1 in
     (object_shape d o.0 o.1 ∙ f.0, f.1)

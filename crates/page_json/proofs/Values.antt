@@ -9,7 +9,7 @@ use Rattle.std.proofs.lemmas.Slice.Eq.{bytes_eq-Decides}
 use Rattle.serde_json.specs.Data.{Num, Data, null, boolean, number, string, array, object, unsigned, negative, float}
 use Rattle.serde_json.specs.Data.{Items, Members, no_members, member}
 use Rattle.serde_json.specs.Find.{as_str, as_object, as_array, as_number, as_u64}
-use Rattle.page_json.specs.Reading.{first_value, behind_first, are_none, text_member, found_steps}
+use Rattle.page_json.specs.Reading.{value_in_front, members_behind, are_none, text_member, found_steps}
 use Rattle.page_json.proofs.Fronts.{some_from}
 
 pub same_bytes : (a b : List ℕ) → bytes_eq a b ≡ true → a ≡ b
@@ -80,7 +80,7 @@ first_shape_at : (b : Bool) (name k : List ℕ) (d e : Data) (ms : Members) → 
 first_shape_at true name k d e ms same is = ap₂ (λ n v. member n v ms) (same_bytes k name same) (if_some true e d is).1
 first_shape_at false name k d e ms same is = absurd (cc)
 
-pub first_shape : (name : List ℕ) (d : Data) (ms : Members) → first_value name ms ≡ Some d → ms ≡ member name d (behind_first name ms)
+pub first_shape : (name : List ℕ) (d : Data) (ms : Members) → value_in_front name ms ≡ Some d → ms ≡ member name d (members_behind name ms)
 first_shape name d no_members e = absurd (cc)
 first_shape name d (member k v ms) e = first_shape_at (bytes_eq k name) name k d v ms refl e
 
@@ -88,7 +88,7 @@ first_none_at : (b : Bool) (k : List ℕ) (d : Data) (ms : Members) → cond b (
 first_none_at true k d ms e = absurd (cc)
 first_none_at false k d ms e = refl
 
-pub first_none : (name : List ℕ) (ms : Members) → first_value name ms ≡ None → behind_first name ms ≡ ms
+pub first_none : (name : List ℕ) (ms : Members) → value_in_front name ms ≡ None → members_behind name ms ≡ ms
 first_none name no_members e = refl
 first_none name (member k d ms) e = first_none_at (bytes_eq k name) k d ms e
 
@@ -97,7 +97,7 @@ none_left no_members e = refl
 none_left (member k d ms) e = absurd (cc)
 
 pub text_shape : (name text : List ℕ) (ms : Members) → text_member name ms ≡ Some text
-    → ms ≡ member name (string text) (behind_first name ms)
+    → ms ≡ member name (string text) (members_behind name ms)
 text_shape name text ms e =
-    let v = some_from as_str (first_value name ms) text e in
-    first_shape name v.0 ms v.1 ∙ ap (λ d. member name d (behind_first name ms)) (str_shape v.0 text v.2)
+    let v = some_from as_str (value_in_front name ms) text e in
+    first_shape name v.0 ms v.1 ∙ ap (λ d. member name d (members_behind name ms)) (str_shape v.0 text v.2)

@@ -16,14 +16,14 @@ use Rattle.base64.specs.GeneralPurpose.{encode_of, decode_of}
 -- ---- an object's members, taken off its front
 
 -- the value of the first member, where it has the name
-abbrev pub first_value : List ℕ → Members → Option Data
-first_value name no_members = None
-first_value name (member k d ms) = if bytes_eq k name then Some d else None
+abbrev pub value_in_front : List ℕ → Members → Option Data
+value_in_front name no_members = None
+value_in_front name (member k d ms) = if bytes_eq k name then Some d else None
 
 -- the members behind it, and all of them where the first has another name
-abbrev pub behind_first : List ℕ → Members → Members
-behind_first name no_members = no_members
-behind_first name (member k d ms) = if bytes_eq k name then ms else member k d ms
+abbrev pub members_behind : List ℕ → Members → Members
+members_behind name no_members = no_members
+members_behind name (member k d ms) = if bytes_eq k name then ms else member k d ms
 
 -- no member is left
 abbrev pub are_none : Members → Bool
@@ -32,11 +32,11 @@ are_none (member k d ms) = false
 
 -- the first member's string, where it has the name
 abbrev pub text_member : List ℕ → Members → Option (List ℕ)
-text_member name ms = option_and_then as_str (first_value name ms)
+text_member name ms = option_and_then as_str (value_in_front name ms)
 
 -- its array
 abbrev pub array_member : List ℕ → Members → Option Items
-array_member name ms = option_and_then as_array (first_value name ms)
+array_member name ms = option_and_then as_array (value_in_front name ms)
 
 -- ---- terms and rows
 
@@ -68,22 +68,22 @@ kinded_term kind text (Some d) (Some e) = None
 -- by the members behind "value"
 abbrev pub term_by_tag : List ℕ → List ℕ → Option Data → Members → Option Term
 term_by_tag kind text datatype ms =
-    if are_none (behind_first (codes "xml:lang") ms) then kinded_term kind text datatype (first_value (codes "xml:lang") ms) else None
+    if are_none (members_behind (codes "xml:lang") ms) then kinded_term kind text datatype (value_in_front (codes "xml:lang") ms) else None
 
 -- by the members behind "type"
 abbrev pub term_by_value : List ℕ → Option Data → Members → Option Term
 term_by_value kind datatype ms =
-    option_and_then (λ text. term_by_tag kind text datatype (behind_first (codes "value") ms)) (text_member (codes "value") ms)
+    option_and_then (λ text. term_by_tag kind text datatype (members_behind (codes "value") ms)) (text_member (codes "value") ms)
 
 -- by the members behind "datatype"
 abbrev pub term_by_type : Option Data → Members → Option Term
 term_by_type datatype ms =
-    option_and_then (λ kind. term_by_value kind datatype (behind_first (codes "type") ms)) (text_member (codes "type") ms)
+    option_and_then (λ kind. term_by_value kind datatype (members_behind (codes "type") ms)) (text_member (codes "type") ms)
 
 -- the term of a value
 abbrev pub found_term : Data → Option Term
 found_term d =
-    option_and_then (λ ms. term_by_type (first_value (codes "datatype") ms) (behind_first (codes "datatype") ms)) (as_object d)
+    option_and_then (λ ms. term_by_type (value_in_front (codes "datatype") ms) (members_behind (codes "datatype") ms)) (as_object d)
 
 -- the entries of a row's members
 abbrev pub found_entries : Members → Option RowEntries
@@ -135,15 +135,15 @@ pub record PageMembers : Type 0 where
 -- the four members of a page
 abbrev pub page_members : Members → Option PageMembers
 page_members ms =
-    option_and_then (λ next. let a = behind_first (codes "next") ms in
-    option_and_then (λ rows. let b = behind_first (codes "rows") a in
-    option_and_then (λ steps. let c = behind_first (codes "steps") b in
-    option_and_then (λ variables. if are_none (behind_first (codes "vars") c)
+    option_and_then (λ next. let a = members_behind (codes "next") ms in
+    option_and_then (λ rows. let b = members_behind (codes "rows") a in
+    option_and_then (λ steps. let c = members_behind (codes "steps") b in
+    option_and_then (λ variables. if are_none (members_behind (codes "vars") c)
     then Some (record { next = next; rows = rows; steps = steps; variables = variables }) else None)
     (array_member (codes "vars") c))
-    (option_and_then found_steps (first_value (codes "steps") b)))
+    (option_and_then found_steps (value_in_front (codes "steps") b)))
     (array_member (codes "rows") a))
-    (first_value (codes "next") ms)
+    (value_in_front (codes "next") ms)
 
 -- a page or a refusal, with each row as its entries
 pub data Shape : Type 0 where
@@ -159,13 +159,13 @@ found_page p =
 -- the refusal of an object's members
 abbrev pub found_refusal : Members → Option Shape
 found_refusal ms =
-    option_and_then (λ name. if are_none (behind_first (codes "error") ms) then Some (refusal_shape name) else None)
+    option_and_then (λ name. if are_none (members_behind (codes "error") ms) then Some (refusal_shape name) else None)
     (text_member (codes "error") ms)
 
 -- the reply of an object's members: a refusal where the first is "error"
 abbrev pub reply_by_members : Members → Option Shape
 reply_by_members ms =
-    if is_some (first_value (codes "error") ms) then found_refusal ms else option_and_then found_page (page_members ms)
+    if is_some (value_in_front (codes "error") ms) then found_refusal ms else option_and_then found_page (page_members ms)
 
 -- the reply of a value
 abbrev pub found_reply : Data → Option Shape

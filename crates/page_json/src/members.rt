@@ -3,7 +3,7 @@
 ghost use Rattle.std.specs.Prelude.{◌≡◌, option_map, option_and_then, is_some};
 ghost use Rattle.serde_json.specs.Find.{as_str, as_object, as_array};
 ghost use Rattle.serde_json.specs.View.{view, items_view, members_view};
-ghost use Rattle.page_json.specs.Reading.{first_value, behind_first, are_none, array_member, found_steps};
+ghost use Rattle.page_json.specs.Reading.{value_in_front, members_behind, are_none, array_member, found_steps};
 
 use serde_json::{Map, Value};
 use term_core::Text;
@@ -40,7 +40,7 @@ pub(crate) fn into_text(value: Value) -> Option<Text>
 /// Whether the first member has the name.
 #[tactic(auto, using(crate::proofs::Fronts::first_named, crate::proofs::Fronts::none_first))]
 pub(crate) fn begins_with(object: &Object, name: &str) -> bool
-    ensures { result ≡ is_some (first_value name.now (members_view object.now.entries)) }
+    ensures { result ≡ is_some (value_in_front name.now (members_view object.now.entries)) }
 {
     match object.first_key_value() {
         Some((key, _)) => key.as_str() == name,
@@ -58,8 +58,8 @@ pub(crate) fn is_done(object: &Object) -> bool
 
 /// Takes the first member off where it has the name.
 pub(crate) fn take_first(object: &mut Object, name: &str) -> Option<Value>
-    ensures value { option_map view result ≡ first_value name.now (members_view object.old.entries) }
-    ensures rest { members_view object.new.entries ≡ behind_first name.now (members_view object.old.entries) }
+    ensures value { option_map view result ≡ value_in_front name.now (members_view object.old.entries) }
+    ensures rest { members_view object.new.entries ≡ members_behind name.now (members_view object.old.entries) }
 {
     if !begins_with(object, name) {
         return None;
@@ -72,8 +72,8 @@ pub(crate) fn take_first(object: &mut Object, name: &str) -> Option<Value>
 
 /// The same of a member that is to be a string.
 pub(crate) fn take_text(object: &mut Object, name: &str) -> Option<Text>
-    ensures value { result ≡ option_and_then as_str (first_value name.now (members_view object.old.entries)) }
-    ensures rest { members_view object.new.entries ≡ behind_first name.now (members_view object.old.entries) }
+    ensures value { result ≡ option_and_then as_str (value_in_front name.now (members_view object.old.entries)) }
+    ensures rest { members_view object.new.entries ≡ members_behind name.now (members_view object.old.entries) }
 {
     match take_first(object, name) {
         Some(value) => into_text(value),
@@ -84,7 +84,7 @@ pub(crate) fn take_text(object: &mut Object, name: &str) -> Option<Text>
 /// The same of a member that is to be an array.
 pub(crate) fn take_array(object: &mut Object, name: &str) -> Option<Vec<Value>>
     ensures value { option_map (λ v. items_view v.items) result ≡ array_member name.now (members_view object.old.entries) }
-    ensures rest { members_view object.new.entries ≡ behind_first name.now (members_view object.old.entries) }
+    ensures rest { members_view object.new.entries ≡ members_behind name.now (members_view object.old.entries) }
 {
     match take_first(object, name) {
         Some(value) => into_array(value),
@@ -94,8 +94,8 @@ pub(crate) fn take_array(object: &mut Object, name: &str) -> Option<Vec<Value>>
 
 /// The same of a member that is to be a number of steps.
 pub(crate) fn take_steps(object: &mut Object, name: &str) -> Option<u32>
-    ensures value { result ≡ option_and_then found_steps (first_value name.now (members_view object.old.entries)) }
-    ensures rest { members_view object.new.entries ≡ behind_first name.now (members_view object.old.entries) }
+    ensures value { result ≡ option_and_then found_steps (value_in_front name.now (members_view object.old.entries)) }
+    ensures rest { members_view object.new.entries ≡ members_behind name.now (members_view object.old.entries) }
 {
     match take_first(object, name) {
         Some(value) => steps_of(&value),

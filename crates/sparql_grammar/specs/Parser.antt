@@ -6,9 +6,9 @@ use Rattle.sparql_tree.specs.declared.symbol.Symbol.{Symbol}
 pub use Rattle.sparql_tree.specs.Heads.{head}
 
 -- the value of the first symbol
-abbrev pub value_of : List Symbol → List ℕ
-value_of [] = []
-value_of (first ∷ rest) = first.value
+abbrev pub value_in_first : List Symbol → List ℕ
+value_in_first [] = []
+value_in_first (first ∷ rest) = first.value
 
 -- the symbols behind the first
 abbrev pub behind_first : List Symbol → List Symbol
@@ -17,7 +17,7 @@ behind_first (first ∷ rest) = rest
 
 -- these two, kept folded
 unfoldable pub first_value : List Symbol → List ℕ
-first_value ts = value_of ts
+first_value ts = value_in_first ts
 
 unfoldable pub next : List Symbol → List Symbol
 next ts = behind_first ts

@@ -26,30 +26,30 @@ abbrev pub shape_of_word : List ℕ → Shape
 shape_of_word text = if is_word text (codes "true") || is_word text (codes "false") then shapes.Boolean else word_shape text
 
 -- what a token is to the grammar, whatever its prefix stands for
-abbrev pub shape_of : Kind → List ℕ → Shape
-shape_of kinds.Iri text = shapes.Iri
-shape_of kinds.PName text = shapes.Iri
-shape_of kinds.Blank text = shapes.Blank
-shape_of kinds.Var text = shapes.Var
-shape_of kinds.String text = shapes.Quoted
-shape_of kinds.Lang text = shapes.Tag
-shape_of kinds.Integer text = shapes.Integer
-shape_of kinds.Decimal text = shapes.Decimal
-shape_of kinds.Double text = shapes.Other
-shape_of kinds.Word text = shape_of_word text
-shape_of kinds.Sign text = sign_shape text
+abbrev pub shape_of_token : Kind → List ℕ → Shape
+shape_of_token kinds.Iri text = shapes.Iri
+shape_of_token kinds.PName text = shapes.Iri
+shape_of_token kinds.Blank text = shapes.Blank
+shape_of_token kinds.Var text = shapes.Var
+shape_of_token kinds.String text = shapes.Quoted
+shape_of_token kinds.Lang text = shapes.Tag
+shape_of_token kinds.Integer text = shapes.Integer
+shape_of_token kinds.Decimal text = shapes.Decimal
+shape_of_token kinds.Double text = shapes.Other
+shape_of_token kinds.Word text = shape_of_word text
+shape_of_token kinds.Sign text = sign_shape text
 
 -- a term, a variable or the verb a begins there
-abbrev pub is_term : Shape → Bool
-is_term shapes.Iri = true
-is_term shapes.Blank = true
-is_term shapes.Var = true
-is_term shapes.Quoted = true
-is_term shapes.Integer = true
-is_term shapes.Decimal = true
-is_term shapes.Boolean = true
-is_term shapes.IsA = true
-is_term _ = false
+abbrev pub is_held_term : Shape → Bool
+is_held_term shapes.Iri = true
+is_held_term shapes.Blank = true
+is_held_term shapes.Var = true
+is_held_term shapes.Quoted = true
+is_held_term shapes.Integer = true
+is_held_term shapes.Decimal = true
+is_held_term shapes.Boolean = true
+is_held_term shapes.IsA = true
+is_held_term _ = false
 
 -- the bytes of an IRI, if there is one
 abbrev pub bytes_of : Option (List ℕ) → ℕ
@@ -81,7 +81,7 @@ triples_behind triples shapes.CloseBrace bytes = no_triples
 triples_behind triples shapes.Point bytes = no_triples
 triples_behind triples shapes.Close bytes = no_triples
 triples_behind triples shapes.Semicolon bytes = record { terms = 1; subject = triples.subject; verb = 0 }
-triples_behind triples shape bytes = if is_term shape then with_term triples bytes else triples
+triples_behind triples shape bytes = if is_held_term shape then with_term triples bytes else triples
 
 -- the parentheses that are open behind a token
 abbrev pub parentheses_behind : ℕ → Shape → ℕ
@@ -96,7 +96,7 @@ at_column table column = record { first = table.first; wide = table.wide; rows =
 -- a cell fills a column, where the rows have some
 abbrev pub fills_column : Table → Shape → Bool
 fills_column table shapes.Undef = table.rows && table.wide
-fills_column table shape = (table.rows && table.wide) && is_term shape
+fills_column table shape = (table.rows && table.wide) && is_held_term shape
 
 -- a table behind a token at this place: in front of the rows a parenthesis opens its variables, and in them a row;
 -- a brace begins the rows; a datatype stands in the column of its literal
@@ -136,7 +136,7 @@ token_bytes (Some token) = token.to - token.from
 -- the bytes of the variable that a term of a table is of
 abbrev pub variable_bytes : List Token → Table → Shape → ℕ
 variable_bytes tokens table shape =
-    if table.rows && is_term shape then token_bytes (slice_get tokens (added table.first table.column)) else 0
+    if table.rows && is_held_term shape then token_bytes (slice_get tokens (added table.first table.column)) else 0
 
 -- the subject and the verb behind a comma, the subject behind a semicolon
 abbrev pub held_by_triples : Triples → Shape → ℕ
@@ -163,7 +163,7 @@ written text token = slice_range text token.from token.to
 abbrev pub excess_on : Prefixes → List ℕ → List Token → ℕ → Passed → ℕ → List Token → ℕ
 excess_on prefixes text tokens n before at [] = n
 excess_on prefixes text tokens n before at (t ∷ ts) =
-    let shape = shape_of t.kind (written text t) in
+    let shape = shape_of_token t.kind (written text t) in
     let more = prefix_bytes prefixes t.kind (written text t) in
     excess_on prefixes text tokens (added (added n more) (held_again tokens before shape))
     (behind before at shape (added (length (written text t)) more)) (added at 1) ts

@@ -53,7 +53,7 @@ struct Passed {
 
 /// What a token is to the grammar, whatever its prefix stands for.
 fn shape_of(kind: Kind, text: &[u8]) -> Shape
-    ensures { result ≡ spec.shape_of kind text.now }
+    ensures { result ≡ spec.shape_of_token kind text.now }
 {
     match kind {
         Kind::Iri | Kind::PName => Shape::Iri,
@@ -76,7 +76,7 @@ fn shape_of(kind: Kind, text: &[u8]) -> Shape
 }
 
 fn is_term(shape: Shape) -> bool
-    ensures { result ≡ spec.is_term shape }
+    ensures { result ≡ spec.is_held_term shape }
 {
     matches!(
         shape,
