@@ -5,3 +5,7 @@
 mod cases;
 #[cfg(test)]
 mod terms;
+#[cfg(test)]
+mod expression_cases;
+#[cfg(test)]
+mod expressions;

@@ -1,0 +1,3 @@
+pub mod MadeValues
+pub mod Occurs
+pub mod Steps

@@ -1,0 +1,4 @@
+pub mod Founds
+pub mod Parts
+pub mod Answers
+pub mod Tagged

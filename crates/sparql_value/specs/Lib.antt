@@ -1,0 +1,5 @@
+pub mod MadeTerms
+pub mod Operators
+pub mod Functions
+pub mod Evaluation
+pub mod Laws
