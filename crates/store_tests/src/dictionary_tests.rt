@@ -323,17 +323,30 @@ fn an_empty_dictionary_has_no_term(rt: HostRuntime) -> Result<(), Fail> {
     Ok(())
 }
 
-/// How many of the first 60 reads are told where they fail, and those alone, in the search for the
-/// longest term.
+/// Whether a read that fails is told, in the search for the longest term: Some of that, and None where
+/// the term is found but by a read past it, or not found.
+fn is_told(
+    rt: &impl Abort,
+    alloc: Global,
+    made: &Made,
+    t: &Term,
+    failing: u64,
+) -> Result<Option<bool>, AllocError> {
+    let (id, reads) = id_in(rt, alloc, made, vec![in alloc; failing]?, t);
+    Ok(match id {
+        Err(StoreFault::Blocks) if reads.saturating_sub(failing) == 1 => Some(true),
+        Ok(Some(601)) if reads <= failing => Some(false),
+        _ => None,
+    })
+}
+
+/// How many of the first 60 reads are told where they fail, and those alone.
 fn failures_told(rt: &impl Abort, alloc: Global, made: &Made, t: &Term) -> Result<u64, AllocError> {
     let mut failed = 0u64;
-    for n in 0u64..60 {
-        let (id, reads) = id_in(rt, alloc, made, vec![in alloc; n]?, t);
-        if id == Err(StoreFault::Blocks) && reads > n && reads - n == 1 {
-            failed = failed.saturating_add(1);
-        } else {
-            assert!(rt; id == Ok(Some(601)) && reads <= n);
-        }
+    for failing in 0u64..60 {
+        let told = is_told(rt, alloc, made, t, failing)?;
+        assert!(rt; told.is_some());
+        failed = failed.saturating_add(u64::from(told == Some(true)));
     }
     Ok(failed)
 }

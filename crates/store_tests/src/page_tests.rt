@@ -8,7 +8,7 @@ use pattern_page::{
 use sage_outside::{Blocks, NeverBlocks};
 use std::alloc::Global;
 use std::test::Fail;
-use term_core::{IdTriple, Pattern, Place, Row, Text};
+use term_core::{IdTriple, Memory, Pattern, Place, Row, Text};
 use triple_store::Store;
 
 /// In order the terms are `i:a`, `i:b` and `i:p`. By predicate and object the triple of `i:b` comes first.
@@ -56,18 +56,45 @@ fn follow<B: Blocks>(
     follow_pages(alloc, store, &part, names, &[1], out)
 }
 
-/// The counts of all pages of one step, where the lines of the answer are these.
-fn counts_of(alloc: Global, wanted: &[u8]) -> Result<Option<Counts>, Fail> {
-    let file = image_of(alloc, DOCUMENT)?;
-    let pattern = pattern(alloc, "y")?;
-    let names = names(alloc)?;
+/// The counts of all pages of one step over a store, where the lines of the answer are these.
+fn counts_over<B: Blocks>(
+    alloc: Global,
+    store: &mut Store<B>,
+    pattern: &Pattern,
+    names: &[Text],
+    wanted: &[u8],
+) -> Result<Option<Counts>, Memory> {
     let mut out = Vec::new(alloc);
-    push_header(&mut out, names.as_slice())?;
-    let mut store = open(&file)?;
-    match follow(alloc, &mut store, &pattern, names.as_slice(), &mut out) {
+    push_header(&mut out, names)?;
+    match follow(alloc, store, pattern, names, &mut out) {
         Ok(counts) if out.as_slice() == wanted => Ok(Some(counts)),
         _ => Ok(None),
     }
+}
+
+/// The same over the file of a store.
+fn counts_in(
+    alloc: Global,
+    file: &[u8],
+    pattern: &Pattern,
+    names: &[Text],
+    wanted: &[u8],
+) -> Result<Option<Counts>, Fail> {
+    let mut store = open(file)?;
+    Ok(counts_over(alloc, &mut store, pattern, names, wanted)?)
+}
+
+/// The same of the pattern of two variables.
+fn counts_of_file(alloc: Global, file: &[u8], wanted: &[u8]) -> Result<Option<Counts>, Fail> {
+    let pattern = pattern(alloc, "y")?;
+    let names = names(alloc)?;
+    counts_in(alloc, file, &pattern, names.as_slice(), wanted)
+}
+
+/// The same of the document.
+fn counts_of(alloc: Global, wanted: &[u8]) -> Result<Option<Counts>, Fail> {
+    let file = image_of(alloc, DOCUMENT)?;
+    counts_of_file(alloc, &file, wanted)
 }
 
 /// An empty step, two triples and two ends: five steps.
@@ -93,17 +120,41 @@ fn page_of<B: Blocks>(
     part.page(alloc, store, next, 1)
 }
 
-/// The page of one step of the pattern with this variable for its object; none where the bytes are
-/// refused.
-fn page_at(alloc: Global, object: &str, next: Option<&[u8]>) -> Result<Option<Page>, Fail> {
-    let file = image_of(alloc, DOCUMENT)?;
-    let pattern = pattern(alloc, object)?;
-    let mut store = open(&file)?;
-    match page_of(alloc, &mut store, &pattern, next) {
+/// A page, or none where the bytes are refused.
+fn page_or_none(page: Result<Page, PageFault>) -> Result<Option<Page>, Fail> {
+    match page {
         Ok(page) => Ok(Some(page)),
         Err(PageFault::Plan) => Ok(None),
         Err(_) => Err("no page")?,
     }
+}
+
+/// The page of one step over the file of a store.
+fn page_in(
+    alloc: Global,
+    file: &[u8],
+    pattern: &Pattern,
+    next: Option<&[u8]>,
+) -> Result<Option<Page>, Fail> {
+    let mut store = open(file)?;
+    page_or_none(page_of(alloc, &mut store, pattern, next))
+}
+
+/// The same of the pattern with this variable for its object.
+fn page_of_file(
+    alloc: Global,
+    file: &[u8],
+    object: &str,
+    next: Option<&[u8]>,
+) -> Result<Option<Page>, Fail> {
+    let pattern = pattern(alloc, object)?;
+    page_in(alloc, file, &pattern, next)
+}
+
+/// The same of the document.
+fn page_at(alloc: Global, object: &str, next: Option<&[u8]>) -> Result<Option<Page>, Fail> {
+    let file = image_of(alloc, DOCUMENT)?;
+    page_of_file(alloc, &file, object, next)
 }
 
 /// The bytes behind so many pages of one step, or nothing where the plan came to its end.

@@ -1,8 +1,8 @@
 //! Ranges, places and counts of stores in blocks of memory. Expected values are worked out by hand.
 
 use crate::making::{
-    THREE, TWO, entry_in, ids, image_of, pattern, place_in, ranks, store_of, term, term_in,
-    triple_in, with_byte,
+    THREE, TWO, entry_in, ids, image_of, pattern, place_in, store_of, term, term_in, triple_in,
+    with_byte,
 };
 use btree_scan::Prefix;
 use sage_outside::{Blocks, ReadFault, StoreFault};
@@ -67,13 +67,25 @@ fn range_and_count<B: Blocks>(
     Ok((range, count))
 }
 
-fn agrees(rt: &impl Abort, alloc: Global, bytes: &[u8], row: &Row) -> Result<bool, Fail> {
-    let (subject, predicate, object, order, wanted) = row;
-    let asked = pattern(alloc, subject, predicate, object)?;
+/// Whether the triples of the pattern are those of the row, in its order.
+fn has_range(
+    rt: &impl Abort,
+    alloc: Global,
+    bytes: &[u8],
+    asked: &Pattern,
+    row: &Row,
+) -> Result<bool, Fail> {
+    let &(_, _, _, order, wanted) = row;
     let mut store = store_of(bytes, Vec::new(alloc))?;
-    let (range, count) = range_and_count(alloc, &mut store, &asked)?;
+    let (range, count) = range_and_count(alloc, &mut store, asked)?;
     let listed = are_listed(rt, &mut store, &range, wanted);
-    Ok(listed && range.order == *order && count as usize == wanted.len())
+    Ok(listed && range.order == order && count as usize == wanted.len())
+}
+
+fn agrees(rt: &impl Abort, alloc: Global, bytes: &[u8], row: &Row) -> Result<bool, Fail> {
+    let &(subject, predicate, object, _, _) = row;
+    let asked = pattern(alloc, subject, predicate, object)?;
+    has_range(rt, alloc, bytes, &asked, row)
 }
 
 #[test]
@@ -183,30 +195,23 @@ fn fronts_have_places(rt: HostRuntime) -> Result<(), Fail> {
     Ok(())
 }
 
-/// What the two triples' store answers where the last id of its second entry is no term's: the first and
-/// the second triple of the range of all, whether it has the second, and its place.
-fn answers_of_broken(
-    rt: &impl Abort,
-    alloc: Global,
-) -> Result<
-    (
-        Result<(u32, u32, u32), StoreFault>,
-        Result<(u32, u32, u32), StoreFault>,
-        Result<bool, ReadFault>,
-        Result<Option<u32>, StoreFault>,
-    ),
-    Fail,
-> {
-    let asked = pattern(alloc, "?", "?", "?")?;
-    let bytes = broken(alloc)?;
-    let mut store = store_of(&bytes, Vec::new(alloc))?;
-    let range = store.range_of(alloc, &asked)?;
-    Ok((
-        triple_in(rt, &mut store, &range, 0).map(ranks),
-        triple_in(rt, &mut store, &range, 1).map(ranks),
-        store.has(&ids((0, 2, 3))),
-        place_in(rt, &mut store, &range, &ids((0, 2, 3))),
-    ))
+/// Whether the two triples' store answers so where the last id of its second entry is no term's: the first
+/// triple of the range is there and the second damaged, the store does not have the second, and it has no
+/// place.
+fn answers_as_broken<B: Blocks>(rt: &impl Abort, store: &mut Store<B>, range: &Range) -> bool {
+    let damaged = StoreFault::Damaged { block: 3 };
+    let second = ids((0, 2, 3));
+    triple_in(rt, store, range, 0) == Ok(ids((0, 2, 1)))
+        && triple_in(rt, store, range, 1) == Err(damaged)
+        && store.has(&second) == Ok(false)
+        && place_in(rt, store, range, &second) == Ok(None)
+}
+
+/// The same of the range of a pattern, over the file of a store.
+fn is_broken(rt: &impl Abort, alloc: Global, bytes: &[u8], asked: &Pattern) -> Result<bool, Fail> {
+    let mut store = store_of(bytes, Vec::new(alloc))?;
+    let range = store.range_of(alloc, asked)?;
+    Ok(answers_as_broken(rt, &mut store, &range))
 }
 
 fn broken(alloc: Global) -> Result<Vec<u8>, Fail> {
@@ -216,10 +221,9 @@ fn broken(alloc: Global) -> Result<Vec<u8>, Fail> {
 
 #[test]
 fn a_broken_entry_is_damaged_in_a_range_and_not_in_a_search(rt: HostRuntime) -> Result<(), Fail> {
-    let damaged = StoreFault::Damaged { block: 3 };
-    assert!(rt;
-        answers_of_broken(&rt, rt.alloc())? == (Ok((0, 2, 1)), Err(damaged), Ok(false), Ok(None))
-    );
+    let bytes = broken(rt.alloc())?;
+    let asked = pattern(rt.alloc(), "?", "?", "?")?;
+    assert!(rt; is_broken(&rt, rt.alloc(), &bytes, &asked)?);
     Ok(())
 }
 

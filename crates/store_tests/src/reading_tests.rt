@@ -6,6 +6,7 @@ use sage_outside::{MemBlocks, ReadFault, StoreFault};
 use std::alloc::Global;
 use std::process::Abort;
 use std::test::Fail;
+use term_core::Term;
 use triple_store::{Info, OpenFault, Store};
 
 /// SHA-256 of the two lines, as `sha256sum` makes it.
@@ -120,9 +121,19 @@ fn is_term(
 ) -> Result<bool, Fail> {
     let mut store = store_of(bytes, Vec::new(alloc))?;
     let found = term_in(rt, alloc, &mut store, id);
-    match wanted {
-        Ok(name) => Ok(found == Ok(term(alloc, name)?)),
-        Err(block) => Ok(found == Err(StoreFault::Damaged { block })),
+    is_wanted(alloc, found, wanted)
+}
+
+/// Whether what was found is the named term, or that block's damage.
+fn is_wanted(
+    alloc: Global,
+    found: Result<Term, StoreFault>,
+    wanted: Result<&str, u32>,
+) -> Result<bool, Fail> {
+    match (found, wanted) {
+        (Ok(found), Ok(name)) => Ok(found == term(alloc, name)?),
+        (Err(fault), Err(block)) => Ok(fault == StoreFault::Damaged { block }),
+        _ => Ok(false),
     }
 }
 
