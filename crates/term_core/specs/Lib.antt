@@ -13,6 +13,7 @@ pub mod Terminals
 pub mod Tokens
 pub mod Numbers
 pub mod Literals
+pub mod Moments
 pub mod Patterns
 pub mod Index
 pub mod Data
