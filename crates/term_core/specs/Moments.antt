@@ -54,12 +54,16 @@ day_of_date year month day = cond (is_date year month day) (Some (day_number yea
 
 -- ---- lexical forms
 
+-- a character suits a form's: a digit where that is 0, and else the same
+abbrev pub suits : ℕ → ℕ → Bool
+suits f c = if f == 48 then is_digit c else c == f
+
 -- a digit where the form has a 0, and elsewhere the form's own character
 abbrev pub has_form : List ℕ → List ℕ → Bool
 has_form [] [] = true
 has_form [] (c ∷ text) = false
 has_form (f ∷ form) [] = false
-has_form (f ∷ form) (c ∷ text) = (if f == 48 then is_digit c else c == f) && has_form form text
+has_form (f ∷ form) (c ∷ text) = suits f c && has_form form text
 
 -- the number that n digits write from a place on
 abbrev pub number_at : ℕ → ℕ → List ℕ → ℕ
