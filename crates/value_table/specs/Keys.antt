@@ -6,18 +6,26 @@ use Rattle.std.specs.declared.cmp.Ordering.TheVariants.{Equal}
 use Rattle.term_core.specs.declared.term.Term.{Term}
 use Rattle.term_core.specs.declared.term.Term.TheVariants.{Iri, Blank, Literal}
 use Rattle.term_core.specs.Order.{term_cmp}
-use Rattle.value_table.specs.Values.{Value, Numeric, WideNumber, Logical, IllFormed, Simple, Tagged, Opaque, Resource, value_of, value_cmp}
+use Rattle.value_table.specs.Values.{Value, Numeric, WideNumber, Logical, IllFormed, Simple, Temporal, Tagged, Opaque, Resource, value_of, value_cmp}
+use Rattle.term_core.specs.Moments.{Moment, Instant, Local, Day}
 
--- where a literal's class stands among the literals: numbers, truth values, strings, and all others
+-- where a moment's kind stands among the literals: those with a zone, those without one, days
+abbrev pub moment_rank : Moment → ℕ
+moment_rank (Instant nanos) = 3
+moment_rank (Local nanos) = 4
+moment_rank (Day day) = 5
+
+-- where a literal's class stands among the literals: numbers, truth values, strings, moments, and all others
 abbrev pub class_rank : Value → ℕ
 class_rank (Numeric number) = 0
 class_rank (Logical truth) = 1
 class_rank (Simple text) = 2
-class_rank WideNumber = 3
-class_rank IllFormed = 3
-class_rank (Tagged text tag) = 3
-class_rank Opaque = 3
-class_rank Resource = 3
+class_rank (Temporal moment) = moment_rank moment
+class_rank WideNumber = 6
+class_rank IllFormed = 6
+class_rank (Tagged text tag) = 6
+class_rank Opaque = 6
+class_rank Resource = 6
 
 -- where a key stands: nothing, blank nodes, IRIs, literals
 abbrev pub key_rank : Option Term → ℕ

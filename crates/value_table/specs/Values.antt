@@ -12,6 +12,7 @@ use Rattle.term_core.specs.Mappings.{same_term}
 use Rattle.term_core.specs.Texts.{xsd_string, xsd_boolean}
 use Rattle.term_core.specs.Numbers.{Number, numerator, compared, is_empty, is_type}
 use Rattle.term_core.specs.Literals.{Form, Exact, Wide, Outside, Other, form_of}
+use Rattle.term_core.specs.Moments.{Moment, moment_of, moment_cmp}
 
 -- a term as a value
 pub data Value : Type 0 where
@@ -25,6 +26,8 @@ pub data Value : Type 0 where
   IllFormed : Value
   -- an xsd:string
   Simple : (text : List ℕ) → Value
+  -- a moment, with a zone or without one, or a day
+  Temporal : (moment : Moment) → Value
   -- a string with a language tag
   Tagged : (text tag : List ℕ) → Value
   -- any other literal
@@ -39,12 +42,17 @@ boolean_of text =
     else if bytes_eq text (codes "false") || bytes_eq text (codes "0") then Logical false
     else IllFormed
 
+-- a literal of any other datatype: a moment, if it is read as one (XSD 1.1 part 2, sections 3.3.7 and 3.3.9)
+abbrev pub moment_or_opaque : Option Moment → Value
+moment_or_opaque None = Opaque
+moment_or_opaque (Some moment) = Temporal moment
+
 -- a literal whose datatype is none of numbers and that has no tag
 abbrev pub text_value : List ℕ → List ℕ → Value
 text_value text datatype =
     if is_type xsd_string datatype then Simple text
     else if is_type xsd_boolean datatype then boolean_of text
-    else Opaque
+    else moment_or_opaque (moment_of text datatype)
 
 -- a literal without a tag: by what it is as a number
 abbrev pub typed_value : Form → List ℕ → List ℕ → Value
@@ -67,6 +75,7 @@ number_of WideNumber = None
 number_of (Logical truth) = None
 number_of IllFormed = None
 number_of (Simple text) = None
+number_of (Temporal moment) = None
 number_of (Tagged text tag) = None
 number_of Opaque = None
 number_of Resource = None
@@ -82,6 +91,7 @@ truth_of_value WideNumber = None
 truth_of_value (Logical truth) = Some truth
 truth_of_value IllFormed = Some false
 truth_of_value (Simple text) = Some (not (is_empty text))
+truth_of_value (Temporal moment) = None
 truth_of_value (Tagged text tag) = Some (not (is_empty text))
 truth_of_value Opaque = None
 truth_of_value Resource = None
@@ -97,6 +107,7 @@ against_number a WideNumber = None
 against_number a (Logical truth) = None
 against_number a IllFormed = None
 against_number a (Simple text) = None
+against_number a (Temporal moment) = None
 against_number a (Tagged text tag) = None
 against_number a Opaque = None
 against_number a Resource = None
@@ -108,6 +119,7 @@ against_boolean a WideNumber = None
 against_boolean a (Logical b) = Some (bool_cmp a b)
 against_boolean a IllFormed = None
 against_boolean a (Simple text) = None
+against_boolean a (Temporal moment) = None
 against_boolean a (Tagged text tag) = None
 against_boolean a Opaque = None
 against_boolean a Resource = None
@@ -119,17 +131,32 @@ against_string a WideNumber = None
 against_string a (Logical truth) = None
 against_string a IllFormed = None
 against_string a (Simple b) = Some (bytes_cmp a b)
+against_string a (Temporal moment) = None
 against_string a (Tagged text tag) = None
 against_string a Opaque = None
 against_string a Resource = None
 
--- the order of two values of one class that has an order: numbers, truth values or strings without a tag; and of no others
+-- a moment against a value: two of one kind are compared by the number (SPARQL 1.1, section 17.3)
+abbrev pub against_moment : Moment → Value → Option Ordering
+against_moment a (Numeric number) = None
+against_moment a WideNumber = None
+against_moment a (Logical truth) = None
+against_moment a IllFormed = None
+against_moment a (Simple text) = None
+against_moment a (Temporal b) = moment_cmp a b
+against_moment a (Tagged text tag) = None
+against_moment a Opaque = None
+against_moment a Resource = None
+
+-- the order of two values of one class that has an order: numbers, truth values, strings without a tag, moments with a
+-- zone, those without one, or days; and of no others
 abbrev pub value_cmp : Value → Value → Option Ordering
 value_cmp (Numeric a) b = against_number a b
 value_cmp WideNumber b = None
 value_cmp (Logical a) b = against_boolean a b
 value_cmp IllFormed b = None
 value_cmp (Simple a) b = against_string a b
+value_cmp (Temporal a) b = against_moment a b
 value_cmp (Tagged text tag) b = None
 value_cmp Opaque b = None
 value_cmp Resource b = None
