@@ -2,9 +2,10 @@
 use Rattle.std.specs.Prelude.{IsTrue}
 use Rattle.term_core.specs.Numbers.{is_kept}
 use Rattle.xsd_num.specs.Values.{number_of}
+use Rattle.xsd_time.specs.Values.{moment_in}
 use Rattle.value_table.specs.Values as values
 use Rattle.expr_value.specs.declared.value.Value.{Value}
-use Rattle.expr_value.specs.declared.value.Value.TheVariants.{Numeric, WideNumber, Logical, IllFormed, Simple, Tagged, Opaque, Resource}
+use Rattle.expr_value.specs.declared.value.Value.TheVariants.{Numeric, WideNumber, Logical, IllFormed, Simple, Temporal, Tagged, Opaque, Resource}
 
 -- the value of the tables
 abbrev pub value_in : Value → values.Value
@@ -13,6 +14,7 @@ value_in WideNumber = values.WideNumber
 value_in (Logical truth) = values.Logical truth
 value_in IllFormed = values.IllFormed
 value_in (Simple text) = values.Simple text.now
+value_in (Temporal moment) = values.Temporal (moment_in moment)
 value_in (Tagged text tag) = values.Tagged text.now tag.now
 value_in Opaque = values.Opaque
 value_in Resource = values.Resource
@@ -24,6 +26,7 @@ IsKeptValue WideNumber = Unit {0}
 IsKeptValue (Logical truth) = Unit {0}
 IsKeptValue IllFormed = Unit {0}
 IsKeptValue (Simple text) = Unit {0}
+IsKeptValue (Temporal moment) = Unit {0}
 IsKeptValue (Tagged text tag) = Unit {0}
 IsKeptValue Opaque = Unit {0}
 IsKeptValue Resource = Unit {0}

@@ -12,6 +12,7 @@ use std::cmp::Ordering;
 use term_core::{Term, compare};
 use xsd_num::law::numbers_are_in_order;
 use xsd_num::{Num, cmp};
+use xsd_time::cmp as compare_moments;
 
 /// The order of two numbers by value. Two integers, which are most of what is compared, are so as
 /// they stand.
@@ -30,8 +31,8 @@ fn compare_numbers(a: &Num, b: &Num) -> Ordering
 }
 
 /// The order of two values: numbers by value, truth values with false first, strings without a tag
-/// by code points (SPARQL 1.1, section 17.3). None exactly where they are not both of one of these
-/// classes.
+/// by code points, and moments with a zone, those without one and days each by the number (SPARQL
+/// 1.1, section 17.3). None exactly where they are not both of one of these classes.
 pub fn compare_values(a: &Value, b: &Value) -> Option<Ordering>
     requires a_kept { IsKeptValue a.now }
     requires b_kept { IsKeptValue b.now }
@@ -41,6 +42,7 @@ pub fn compare_values(a: &Value, b: &Value) -> Option<Ordering>
         (Value::Numeric(a), Value::Numeric(b)) => Some(compare_numbers(a, b)),
         (Value::Logical(a), Value::Logical(b)) => Some(a.cmp(b)),
         (Value::Simple(a), Value::Simple(b)) => Some(a.cmp(b)),
+        (Value::Temporal(a), Value::Temporal(b)) => compare_moments(*a, *b),
         _ => None,
     }
 }

@@ -11,9 +11,10 @@ use crate::comparison::compare_values;
 use crate::value::{Value, value_of};
 use std::cmp::Ordering;
 use term_core::{Term, compare};
+use xsd_time::Moment;
 
 /// Where a literal's class stands among the literals: numbers, truth values, strings without a tag,
-/// and all others.
+/// moments with a zone, moments without one, days, and all others.
 fn class_rank(value: &Value) -> u8
     ensures { result ≡ keys.class_rank (value_in value.now) }
 {
@@ -21,7 +22,10 @@ fn class_rank(value: &Value) -> u8
         Value::Numeric(_) => 0,
         Value::Logical(_) => 1,
         Value::Simple(_) => 2,
-        _ => 3,
+        Value::Temporal(Moment::Instant { .. }) => 3,
+        Value::Temporal(Moment::Local { .. }) => 4,
+        Value::Temporal(Moment::Day { .. }) => 5,
+        _ => 6,
     }
 }
 
@@ -57,7 +61,8 @@ fn order_terms(a: &Term, b: &Term) -> Ordering
 /// The order of two keys of ORDER BY (SPARQL 1.1, section 15.1): a key that is unbound or an error,
 /// then blank nodes, IRIs and literals. Blank nodes and IRIs are in the order of terms; literals are
 /// numbers by value, then truth values with false first, then strings without a tag by code points,
-/// then all others in the order of terms.
+/// then moments with a zone, then those without one, then days, each by the number, then all others
+/// in the order of terms.
 pub fn order_keys(a: Option<&Term>, b: Option<&Term>) -> Ordering
     ensures { result ≡ keys.order_keys (option_copied a.entry) (option_copied b.entry) }
 {

@@ -2,12 +2,15 @@
 
 ghost use Rattle.std.specs.Prelude.{◌≡◌};
 ghost use Rattle.std.specs.Result.{result_ok};
+ghost use Rattle.term_core.specs.Moments as moments;
 ghost use Rattle.value_table.specs.Values as values;
 ghost use Rattle.xsd_num.specs.Values.{number_of, form_in, IsKeptForm};
+ghost use Rattle.xsd_time.specs.Values.{found};
 ghost use Rattle.expr_value.specs.Views.{value_in, IsKeptValue};
 
 use term_core::{Term, XSD_BOOLEAN, XSD_STRING};
 use xsd_num::{Num, NumForm, form_of};
+use xsd_time::{Moment, read};
 
 /// A term has no truth, or two terms have no order, or it is not known whether they are equal: the
 /// error of the operators of SPARQL.
@@ -15,7 +18,8 @@ use xsd_num::{Num, NumForm, form_of};
 pub struct NoValue;
 
 /// What a term is to the operators (SPARQL 1.1, sections 17.2 and 17.3), as a view that borrows the
-/// term's texts. A literal's number is read when the view is made, and not again.
+/// term's texts. A literal's number or moment is read when the view is made, and not
+/// again.
 #[derive(Clone, Copy, Debug)]
 pub enum Value<'a> {
     /// A number that is kept.
@@ -29,6 +33,8 @@ pub enum Value<'a> {
     IllFormed,
     /// A string without a tag.
     Simple(&'a str),
+    /// A moment with a zone, a moment without one, or a day.
+    Temporal(Moment),
     /// A string with a language tag.
     Tagged { text: &'a str, lang: &'a str },
     /// Any other literal.
@@ -49,6 +55,25 @@ fn boolean_of<'a>(text: &str) -> Value<'a>
     }
 }
 
+/// The moment of a text and a datatype.
+fn moment_of(text: &str, datatype: &str) -> Option<Moment>
+    ensures { found result ≡ moments.moment_of text.now datatype.now }
+{
+    read(text.as_bytes(), datatype.as_bytes())
+}
+
+/// A literal of any other datatype: a moment, if it is read as one.
+fn other_value<'a>(text: &str, datatype: &str) -> Value<'a>
+    ensures exact { value_in result
+        ≡ values.moment_or_opaque (moments.moment_of text.now datatype.now) }
+    ensures kept { IsKeptValue result }
+{
+    match moment_of(text, datatype) {
+        Some(moment) => Value::Temporal(moment),
+        None => Value::Opaque,
+    }
+}
+
 /// A literal whose datatype is none of numbers and that has no tag.
 fn text_value<'a>(text: &'a str, datatype: &str) -> Value<'a>
     ensures exact { value_in result ≡ values.text_value text.now datatype.now }
@@ -59,7 +84,7 @@ fn text_value<'a>(text: &'a str, datatype: &str) -> Value<'a>
     } else if datatype == XSD_BOOLEAN {
         boolean_of(text)
     } else {
-        Value::Opaque
+        other_value(text, datatype)
     }
 }
 
@@ -113,8 +138,8 @@ fn is_zero(number: Num) -> bool
 }
 
 /// The truth of a value (SPARQL 1.1, section 17.2.2, the effective boolean value). `NoValue` comes
-/// exactly at a number that is not kept, at a literal that is no number, truth value or string, and
-/// at an IRI or a blank node; an ill-formed number or truth value is false.
+/// exactly at a number that is not kept, at a literal that is no number, truth value or string, as a
+/// moment, and at an IRI or a blank node; an ill-formed number or truth value is false.
 pub fn truth_of_value(value: &Value) -> Result<bool, NoValue>
     ensures { result_ok result ≡ values.truth_of_value (value_in value.now) }
 {
@@ -123,7 +148,7 @@ pub fn truth_of_value(value: &Value) -> Result<bool, NoValue>
         Value::Logical(truth) => Ok(*truth),
         Value::IllFormed => Ok(false),
         Value::Simple(text) | Value::Tagged { text, .. } => Ok(!text.is_empty()),
-        Value::WideNumber | Value::Opaque | Value::Resource => Err(NoValue),
+        Value::WideNumber | Value::Temporal(_) | Value::Opaque | Value::Resource => Err(NoValue),
     }
 }
 
