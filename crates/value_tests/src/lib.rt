@@ -4,6 +4,10 @@
 #[cfg(test)]
 mod cases;
 #[cfg(test)]
+mod moment_cases;
+#[cfg(test)]
+mod moments;
+#[cfg(test)]
 mod terms;
 #[cfg(test)]
 mod expression_cases;

@@ -9,6 +9,7 @@ use std::alloc::Global;
 use std::cmp::Ordering;
 use std::test::Fail;
 use term_core::{Memory, Term, Text};
+use xsd_time::Moment;
 
 /// A line of the table.
 #[derive(Clone, Copy)]
@@ -57,7 +58,7 @@ fn tagged(alloc: Global, text: &str, tag: &str) -> Result<Term, Memory> {
 }
 
 /// The term of a kind and a text.
-fn term(alloc: Global, kind: &str, text: &str) -> Result<Term, Memory> {
+pub fn term(alloc: Global, kind: &str, text: &str) -> Result<Term, Memory> {
     match kind {
         "blank" => Ok(Term::Blank(Text::from_str(alloc, text)?)),
         "iri" => Ok(Term::Iri(Text::from_str(alloc, text)?)),
@@ -77,6 +78,9 @@ fn class_letter(value: &Value) -> &'static str {
         Value::Logical(_) => "L",
         Value::IllFormed => "I",
         Value::Simple(_) => "S",
+        Value::Temporal(Moment::Instant { .. }) => "M",
+        Value::Temporal(Moment::Local { .. }) => "C",
+        Value::Temporal(Moment::Day { .. }) => "D",
         Value::Tagged { .. } => "T",
         Value::Opaque => "O",
     }
@@ -114,7 +118,7 @@ fn each_term_has_its_class_and_truth(rt: HostRuntime) -> Result<(), Fail> {
         assert_eq!(rt; found, (case.class, case.truth, case.truth), "{line}");
         count = count.saturating_add(1);
     }
-    assert!(rt; count > 70);
+    assert!(rt; count > 90);
     Ok(())
 }
 

@@ -2,12 +2,13 @@
 """Writes ../src/cases.rt: terms in the order of keys, each with what it is against each other.
 
 The terms stand here in that order, with their classes and truths, by hand. What the rules give is
-computed anew, with Python's fractions and regular expressions, from SPARQL 1.1 (sections 15.1,
-17.2.2 and 17.3), XSD 1.1 part 2 (sections 3.3.2, 3.3.3 and 3.4.13 to 3.4.25) and the limits of
-numbers, 128 bits and 18 places; and it is compared with what stands here.
+computed anew, with Python's fractions, dates and regular expressions, from SPARQL 1.1 (sections
+15.1, 17.2.2 and 17.3), XSD 1.1 part 2 (sections 3.3.2, 3.3.3, 3.3.7, 3.3.9 and 3.4.13 to 3.4.25)
+and the limits of numbers, 128 bits and 18 places; and it is compared with what stands here.
 Run it in this folder: python3 cases.py > ../src/cases.rt
 """
 import re
+from datetime import date
 from fractions import Fraction
 
 XSD = "http://www.w3.org/2001/XMLSchema#"
@@ -72,6 +73,23 @@ string|9|S|t
 string|B|S|t
 string|a|S|t
 string|é|S|t
+dateTime|0001-01-01T00:00:00+14:00|M|e
+dateTime|1969-12-31T23:59:59.999999999Z|M|e
+dateTime|1970-01-01T00:00:00-00:00|M|e
+dateTime|1970-01-01T00:00:00Z|M|e
+dateTime|2023-12-31T23:59:59Z|M|e
+dateTime|2023-12-31T20:00:00-05:00|M|e
+dateTime|2024-02-29T23:00:00-01:00|M|e
+dateTime|2024-03-01T00:00:00Z|M|e
+dateTime|9999-12-31T23:59:59.999999999-14:00|M|e
+dateTime|1970-01-01T00:00:00|C|e
+dateTime|2023-06-30T00:00:00|C|e
+dateTime|2024-03-01T00:00:00|C|e
+dateTime|2024-03-01T00:00:00.000|C|e
+date|0001-01-01|D|e
+date|1969-12-31|D|e
+date|2024-01-01|D|e
+date|9999-12-31|D|e
 @en||T|f
 boolean||I|f
 decimal||I|f
@@ -98,6 +116,10 @@ byte|170141183460469231731687303715884105728|I|f
 integer|170141183460469231731687303715884105728|W|e
 unsignedLong|18446744073709551616|I|f
 decimal|1e0|I|f
+date|2023-02-29|O|e
+dateTime|2023-02-29T00:00:00Z|O|e
+dateTime|2024-01-01|O|e
+date|2024-01-01Z|O|e
 int|2147483648|I|f
 unsignedByte|256|I|f
 byte|300|I|f
@@ -142,6 +164,30 @@ def integer_value(text, low, high):
     return ("N", Fraction(m)) if LEAST <= m <= GREATEST else ("W", None)
 
 
+def day_value(text):
+    if not re.fullmatch(r"[0-9]{4}-[0-9]{2}-[0-9]{2}", text):
+        return ("O", None)
+    try:
+        return ("D", date.fromisoformat(text).toordinal())
+    except ValueError:
+        return ("O", None)
+
+
+def moment_value(text):
+    form = r"([0-9]{4}-[0-9]{2}-[0-9]{2})T([0-9]{2}):([0-9]{2}):([0-9]{2})(\.[0-9]{1,9})?(Z|[+-][0-9]{2}:[0-9]{2})?"
+    parts = re.fullmatch(form, text)
+    day = day_value(parts[1])[1] if parts else None
+    if day is None:
+        return ("O", None)
+    hour, minute, second = (int(parts[i]) for i in (2, 3, 4))
+    zone = parts[6]
+    ahead = 0 if zone in (None, "Z") else int(zone[0] + "1") * (int(zone[1:3]) * 60 + int(zone[4:6]))
+    if hour > 23 or minute > 59 or second > 59 or abs(ahead) > 840 or (zone and zone[4:6] > "59"):
+        return ("O", None)
+    seconds = ((day * 24 + hour) * 60 + minute - ahead) * 60 + second
+    return ("M" if zone else "C", seconds + Fraction(parts[5] and "0" + parts[5] or 0))
+
+
 def value(kind, text):
     """The class of a term, and its place within a class that has an order."""
     if kind in ("blank", "iri"):
@@ -155,6 +201,10 @@ def value(kind, text):
         return ("L", places[text]) if text in places else ("I", None)
     if kind == "decimal":
         return decimal_value(text)
+    if kind == "dateTime":
+        return moment_value(text)
+    if kind == "date":
+        return day_value(text)
     return integer_value(text, *RANGES[kind]) if kind in RANGES else ("O", None)
 
 
@@ -168,7 +218,7 @@ def truth(text, place):
 
 def key(t, place):
     """What ORDER BY goes by: kinds, classes, and within them values or else terms."""
-    rank = "NLS".index(place[0]) if place[0] in "NLS" else 3
+    rank = "NLSMCD".index(place[0]) if place[0] in "NLSMCD" else 6
     whole = (t[1].encode(), t[2].encode(), t[3].encode())
     return (t[0], rank, whole if place[1] is None else place[1])
 
@@ -199,8 +249,9 @@ print("""//! Terms in the ascending order of keys, with what each is against eac
 ///
 /// The kind is `blank`, `iri`, a tag behind `@`, the name of a datatype of XML Schema, or the IRI of
 /// another datatype. Classes: `R` an IRI or a blank node, `N` a number, `W` a number past 128 bits or
-/// 18 places, `L` a truth value, `I` an ill-formed number or truth value, `S` a string, `T` a string
-/// with a tag, `O` another literal. Truth: `t`, `f`, or `e` for the error. Against another term: `<`
+/// 18 places, `L` a truth value, `I` an ill-formed number or truth value, `S` a string, `M` a moment
+/// with a zone, `C` one without, by a clock alone, `D` a day, `T` a string with a tag, `O` another
+/// literal. Truth: `t`, `f`, or `e` for the error. Against another term: `<`
 /// it is less and not equal, `=` it is equal and not less, `>` the other is less; and where neither is
 /// known to be less, `s` it is the same term, `x` it is not equal, `e` whether it is equal is not known
 /// either.""")
