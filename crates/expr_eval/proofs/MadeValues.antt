@@ -1,10 +1,9 @@
 -- The terms that operators make are read back.
-use Rattle.std.proofs.Common.{◌≡◌, refl, sym, ap, ◌∙◌, List, ℕ, [], ◌∷◌, Bool, true, false, Some, None, T}
-use Rattle.std.specs.Prelude.{codes, IsTrue}
-use Rattle.term_core.specs.Texts.{xsd_string, xsd_boolean}
+use Rattle.std.proofs.Common.{◌≡◌, refl, ap, ◌∙◌, List, ℕ, Bool, true, false, Some}
+use Rattle.std.specs.Prelude.{IsTrue}
 use Rattle.term_core.specs.Numbers.{Number, numerator, lexical, datatype, is_held, is_kept, bounds_of}
 use Rattle.term_core.specs.Literals.{Form, Exact, Wide, Outside, Other, form_of, number_in}
-use Rattle.value_table.specs.Values.{Value, Numeric, Logical, Simple, value_of, typed_value}
+use Rattle.value_table.specs.Values.{Numeric, Logical, Simple, value_of, typed_value}
 use Rattle.sparql_value.specs.MadeTerms.{boolean_term, number_term, simple_term}
 use Rattle.xsd_num.proofs.Readback.{reads_back}
 use Rattle.xsd_num.proofs.Wide.{projected}

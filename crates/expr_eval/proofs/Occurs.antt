@@ -1,7 +1,6 @@
 -- A text has another just where that stands in it.
-use Rattle.std.proofs.Common.{◌≡◌, ◌≢◌, ℕ, refl, sym, ap, ◌∙◌, true, false, Bool, List, [], ◌∷◌, ◌++◌, length, drop, take, ◌⊎◌, inl, inr, eqb, ◌↔◌, true≢false}
+use Rattle.std.proofs.Common.{◌≡◌, ℕ, refl, sym, ap, true, false, Bool, List, [], ◌∷◌, ◌++◌, length, drop, ◌⊎◌, inl, inr, ◌↔◌}
 use Rattle.std.specs.Prelude.{◌||◌}
-use Rattle.std.specs.List.{starts_with}
 use Rattle.std.specs.Str.Iter.{HasSubslice}
 use Rattle.std.proofs.lemmas.Bool.Decides.{Decides-eqb}
 use Rattle.std.proofs.lemmas.Slice.Eq.{starts_is}

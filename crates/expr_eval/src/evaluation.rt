@@ -256,7 +256,8 @@ fn multiplied_at(alloc: Global, factor: &Factor, total: Num, row: &Row) -> Resul
 #[tactic(auto, using(crate::proofs::Steps::chain_none))]
 fn sum(alloc: Global, first: Num, rest: &[Signed], row: &Row) -> Result<Num, ExprError>
     requires { IsTrue (is_kept (number_of first)) }
-    ensures { FindsNumber (operators.chain operators.adding (Some (number_of first)) (operands_under (operands (signs_of rest.now)) row.now)) result }
+    ensures { FindsNumber (operators.chain operators.adding (Some (number_of first))
+        (operands_under (operands (signs_of rest.now)) row.now)) result }
 {
     let mut total = first;
     for signed in rest {
@@ -274,7 +275,8 @@ fn sum(alloc: Global, first: Num, rest: &[Signed], row: &Row) -> Result<Num, Exp
 #[tactic(auto, using(crate::proofs::Steps::chain_none))]
 fn product(alloc: Global, first: Num, rest: &[Factor], row: &Row) -> Result<Num, ExprError>
     requires { IsTrue (is_kept (number_of first)) }
-    ensures { FindsNumber (operators.chain operators.multiplying (Some (number_of first)) (operands_under (operands (factors_of rest.now)) row.now)) result }
+    ensures { FindsNumber (operators.chain operators.multiplying (Some (number_of first))
+        (operands_under (operands (factors_of rest.now)) row.now)) result }
 {
     let mut total = first;
     for factor in rest {

@@ -81,7 +81,7 @@ pub fn truth_of_found(found: &Found) -> Result<bool, ExprError>
 /// The number that the term is.
 pub fn number_of_found(found: &Found) -> Result<Num, ExprError>
     requires { IsKeptFound found.now }
-    ensures { FindsNumber (values.number_of (values.value_of (term_of found.now))) result }
+    ensures { FindsNumber (values.kept_number (values.value_of (term_of found.now))) result }
 {
     match value_of_found(found) {
         Value::Numeric(number) => Ok(number),

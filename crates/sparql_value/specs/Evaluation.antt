@@ -20,7 +20,8 @@ abbrev mutual
   value_under (Compare op left right) row = option_map boolean_term (comparison op (value_under left row) (value_under right row))
   value_under (OneOf left items negated) row = option_map boolean_term (membership negated (value_under left row) (values_under items row))
   value_under (Sum first rest) row = option_map number_term (chain adding (as_number (value_under first row)) (operands_under rest row))
-  value_under (Product first rest) row = option_map number_term (chain multiplying (as_number (value_under first row)) (operands_under rest row))
+  value_under (Product first rest) row =
+      option_map number_term (chain multiplying (as_number (value_under first row)) (operands_under rest row))
   value_under (Call function arguments) row = called function (values_under arguments row)
   value_under (Aggregate kind distinct argument) row = None
   value_under (AggregateAll kind distinct) row = None

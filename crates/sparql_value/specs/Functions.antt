@@ -9,7 +9,7 @@ use Rattle.term_core.specs.declared.term.Term.{Term}
 use Rattle.term_core.specs.declared.term.Term.TheVariants.{Iri, Blank, Literal}
 use Rattle.term_core.specs.Mappings.{same_term}
 use Rattle.term_core.specs.Numbers.{Whole, absolute, is_empty}
-use Rattle.value_table.specs.Values.{Value, Numeric, WideNumber, Logical, IllFormed, Simple, Tagged, Opaque, Resource, value_of, number_of, is_literal}
+use Rattle.value_table.specs.Values.{Value, Numeric, WideNumber, Logical, IllFormed, Simple, Temporal, Tagged, Opaque, Resource, value_of, kept_number, is_literal}
 use Rattle.sparql_tree.specs.declared.words.Function.{Function}
 use Rattle.sparql_tree.specs.declared.words.Function.TheVariants as functions
 use Rattle.sparql_value.specs.MadeTerms.{boolean_term, number_term, simple_term, string_term}
@@ -46,11 +46,11 @@ datatype_of_term (Literal text datatype tag) = Some (Iri datatype)
 
 -- whether a term is a number that is kept (SPARQL 1.1, section 17.4.2.4)
 abbrev pub is_numeric : Term → Bool
-is_numeric t = is_some (number_of (value_of t))
+is_numeric t = is_some (kept_number (value_of t))
 
 -- the absolute value of a number (SPARQL 1.1, section 17.4.4.1)
 abbrev pub absolute_of : Term → Option Term
-absolute_of t = option_map number_term (option_and_then (λ n. result_ok (absolute n)) (number_of (value_of t)))
+absolute_of t = option_map number_term (option_and_then (λ n. result_ok (absolute n)) (kept_number (value_of t)))
 
 -- a string with a tag, which is empty where there is none
 abbrev pub Tagging : Type 0
@@ -63,6 +63,7 @@ string_value WideNumber = None
 string_value (Logical truth) = None
 string_value IllFormed = None
 string_value (Simple text) = Some (text, [])
+string_value (Temporal moment) = None
 string_value (Tagged text tag) = Some (text, tag)
 string_value Opaque = None
 string_value Resource = None
@@ -103,7 +104,8 @@ joined_string (Some a) next = (a.0 ++ next.0, if bytes_eq a.1 next.1 then a.1 el
 -- strings in a row behind what stands before them, if anything does (SPARQL 1.1, section 17.4.3.12); of nothing the empty string
 abbrev pub concat_behind : Option Tagging → List (Option Term) → Option Tagging
 concat_behind done [] = Some (unwrap_or done ([], []))
-concat_behind done (first ∷ rest) = option_and_then (λ next. concat_behind (Some (joined_string done next)) rest) (option_and_then as_string first)
+concat_behind done (first ∷ rest) =
+    option_and_then (λ next. concat_behind (Some (joined_string done next)) rest) (option_and_then as_string first)
 
 -- how many characters a string literal has (SPARQL 1.1, section 17.4.3.2)
 abbrev pub length_of : Term → Option Term

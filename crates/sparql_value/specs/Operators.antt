@@ -3,7 +3,7 @@ use Rattle.std.specs.Prelude.{Bool, true, false, not, List, [], ◌∷◌, Optio
 use Rattle.std.specs.Result.{result_ok}
 use Rattle.term_core.specs.declared.term.Term.{Term}
 use Rattle.term_core.specs.Numbers.{Number, Fault, sum, difference, product, quotient, negation}
-use Rattle.value_table.specs.Values.{value_of, number_of, truth, equal, less}
+use Rattle.value_table.specs.Values.{value_of, kept_number, truth, equal, less}
 use Rattle.value_table.specs.Comparisons.{unequal, greater, at_most, at_least}
 use Rattle.sparql_tree.specs.declared.words.CompareOp.{CompareOp}
 use Rattle.sparql_tree.specs.declared.words.CompareOp.TheVariants as ops
@@ -14,7 +14,7 @@ as_truth operand = option_and_then truth operand
 
 -- the number of an operand
 abbrev pub as_number : Option Term → Option Number
-as_number operand = option_and_then (λ t. number_of (value_of t)) operand
+as_number operand = option_and_then (λ t. kept_number (value_of t)) operand
 
 -- what is asked of two operands, if both are there
 abbrev pub on_both : {A : Type 0} → (Term → Term → Option A) → Option Term → Option Term → Option A

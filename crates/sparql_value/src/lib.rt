@@ -3,4 +3,4 @@
 
 mod law;
 
-pub use law::names_decide;
+pub use law::{names_decide, sides_decide};

@@ -69,16 +69,16 @@ value_of (Literal text datatype tag) =
     if is_empty tag then typed_value (form_of text datatype) text datatype else Tagged text tag
 
 -- the number, if the value is one that is kept
-abbrev pub number_of : Value → Option Number
-number_of (Numeric number) = Some number
-number_of WideNumber = None
-number_of (Logical truth) = None
-number_of IllFormed = None
-number_of (Simple text) = None
-number_of (Temporal moment) = None
-number_of (Tagged text tag) = None
-number_of Opaque = None
-number_of Resource = None
+abbrev pub kept_number : Value → Option Number
+kept_number (Numeric number) = Some number
+kept_number WideNumber = None
+kept_number (Logical truth) = None
+kept_number IllFormed = None
+kept_number (Simple text) = None
+kept_number (Temporal moment) = None
+kept_number (Tagged text tag) = None
+kept_number Opaque = None
+kept_number Resource = None
 
 -- whether a number is zero
 abbrev pub is_zero : Number → Bool

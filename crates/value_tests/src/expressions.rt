@@ -31,7 +31,10 @@ fn query_of(alloc: Global, case: Case) -> Result<String, AllocError> {
     let expression = case.expression;
     let value = case.value;
     let bindings = case.bindings;
-    format!(in alloc; "PREFIX x: <http://www.w3.org/2001/XMLSchema#> PREFIX e: <http://e/> SELECT ({expression} AS ?a) ({value} AS ?v) {{ VALUES (?x ?y) {{ ({bindings}) }} }}")
+    format!(in alloc;
+        "PREFIX x: <http://www.w3.org/2001/XMLSchema#> PREFIX e: <http://e/> \
+        SELECT ({expression} AS ?a) ({value} AS ?v) {{ VALUES (?x ?y) {{ ({bindings}) }} }}"
+    )
 }
 
 /// The row with `?b` bound to a blank node.
