@@ -5,7 +5,7 @@ ghost use Rattle.std.specs.Result.{result_ok};
 ghost use Rattle.term_core.specs.Moments as moments;
 ghost use Rattle.value_table.specs.Values as values;
 ghost use Rattle.xsd_num.specs.Values.{number_of, form_in, IsKeptForm};
-ghost use Rattle.xsd_time.specs.Values.{found};
+ghost use Rattle.xsd_time.specs.Values.{moment_found};
 ghost use Rattle.expr_value.specs.Views.{value_in, IsKeptValue};
 
 use term_core::{Term, XSD_BOOLEAN, XSD_STRING};
@@ -57,7 +57,7 @@ fn boolean_of<'a>(text: &str) -> Value<'a>
 
 /// The moment of a text and a datatype.
 fn moment_of(text: &str, datatype: &str) -> Option<Moment>
-    ensures { found result ≡ moments.moment_of text.now datatype.now }
+    ensures { moment_found result ≡ moments.moment_of text.now datatype.now }
 {
     read(text.as_bytes(), datatype.as_bytes())
 }

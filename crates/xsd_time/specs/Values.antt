@@ -11,6 +11,6 @@ moment_in (Local nanos) = moments.Local nanos
 moment_in (Day day) = moments.Day day
 
 -- the moment, if there is one
-abbrev pub found : Option Moment → Option moments.Moment
-found None = None
-found (Some moment) = Some (moment_in moment)
+abbrev pub moment_found : Option Moment → Option moments.Moment
+moment_found None = None
+moment_found (Some moment) = Some (moment_in moment)

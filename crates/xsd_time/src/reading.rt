@@ -2,7 +2,7 @@
 
 ghost use Rattle.std.specs.Prelude.{◌≡◌, ◌≤◌, ◌<◌, ◌-ℤ◌, ◌*ℤ◌, ◌≤ℤ◌, neg_ℤ, pos, length, take, true, IfSome};
 ghost use Rattle.term_core.specs.Moments as moments;
-ghost use Rattle.xsd_time.specs.Values.{found};
+ghost use Rattle.xsd_time.specs.Values.{moment_found};
 
 use crate::Moment;
 use crate::calendar::{day_of_date, minutes_of_zone, second_of_time};
@@ -98,7 +98,7 @@ fn less_offset(nanos: i128, minutes: i64) -> i128
 fn moment_in_zone(nanos: i128, zone: &[u8]) -> Option<Moment>
     requires least { neg_ℤ (pos 1_000_000_000_000_000_000_000) ≤ℤ nanos }
     requires greatest { nanos ≤ℤ pos 1_000_000_000_000_000_000_000 }
-    ensures { found result ≡ moments.moment_in_zone nanos zone.now }
+    ensures { moment_found result ≡ moments.moment_in_zone nanos zone.now }
 {
     if zone.is_empty() {
         return Some(Moment::Local { nanos });
@@ -133,7 +133,7 @@ fn moment_of_parts(
     requires greatest { IfSome day (λ n. n ≤ℤ pos 5_000_000) }
     requires second { IfSome second (λ n. n < 86_400) }
     requires nanos { IfSome nanos (λ n. n ≤ 23_000_000_000) }
-    ensures { found result ≡ moments.moment_of_parts day second (nanos, zone.now) }
+    ensures { moment_found result ≡ moments.moment_of_parts day second (nanos, zone.now) }
 {
     moment_in_zone(clock_nanos(day?, second?, nanos?), zone)
 }
@@ -148,7 +148,7 @@ fn begins_date_time(text: &[u8]) -> bool
 
 /// The moment of a text YYYY-MM-DDThh:mm:ss with a fraction or none and a zone or none.
 fn moment_of_date_time(text: &[u8]) -> Option<Moment>
-    ensures { found result ≡ moments.moment_of_date_time text.now }
+    ensures { moment_found result ≡ moments.moment_of_date_time text.now }
 {
     if !begins_date_time(text) {
         return None;
@@ -160,7 +160,7 @@ fn moment_of_date_time(text: &[u8]) -> Option<Moment>
 
 /// The day of a text YYYY-MM-DD.
 fn moment_of_date(text: &[u8]) -> Option<Moment>
-    ensures { found result ≡ moments.moment_of_date text.now }
+    ensures { moment_found result ≡ moments.moment_of_date text.now }
 {
     if has_form(b"0000-00-00", text) {
         let day = day_at_front(text)?;
@@ -176,7 +176,7 @@ fn moment_of_date(text: &[u8]) -> Option<Moment>
 /// Schema 1.1 Datatypes, sections 3.3.7 and 3.3.9). Blanks are not dropped. A moment with a zone
 /// has the zone's offset taken away, so that two spellings of one instant read the same.
 pub fn read(lexical: &[u8], datatype: &[u8]) -> Option<Moment>
-    ensures { found result ≡ moments.moment_of lexical.now datatype.now }
+    ensures { moment_found result ≡ moments.moment_of lexical.now datatype.now }
 {
     if datatype == b"http://www.w3.org/2001/XMLSchema#dateTime".as_slice() {
         moment_of_date_time(lexical)
