@@ -18,8 +18,7 @@ use xsd_time::{Moment, read};
 pub struct NoValue;
 
 /// What a term is to the operators (SPARQL 1.1, sections 17.2 and 17.3), as a view that borrows the
-/// term's texts. A literal's number or moment is read when the view is made, and not
-/// again.
+/// term's texts. A literal's number or moment is read when the view is made, and not again.
 #[derive(Clone, Copy, Debug)]
 pub enum Value<'a> {
     /// A number that is kept.
