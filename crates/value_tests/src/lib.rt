@@ -4,12 +4,12 @@
 #[cfg(test)]
 mod cases;
 #[cfg(test)]
+mod expression_cases;
+#[cfg(test)]
+mod expressions;
+#[cfg(test)]
 mod moment_cases;
 #[cfg(test)]
 mod moments;
 #[cfg(test)]
 mod terms;
-#[cfg(test)]
-mod expression_cases;
-#[cfg(test)]
-mod expressions;
