@@ -491,4 +491,9 @@ SAMETERM(?u, 5) => e:error
 SAMETERM(5, ?u) => e:error
 COUNT(*) => e:error
 SUM(?x) + 1 => e:error WITH 1 UNDEF
-COALESCE(MAX(?x), 7) => 7 WITH 1 UNDEF";
+COALESCE(MAX(?x), 7) => 7 WITH 1 UNDEF
+'2024-03-01T00:00:00Z'^^x:dateTime = '2024-02-29T23:00:00-01:00'^^x:dateTime => true
+'2024-03-01T00:00:00'^^x:dateTime = '2024-02-29T23:00:00-01:00'^^x:dateTime => e:error
+'2024-02-29'^^x:date < '2024-03-01'^^x:date => true
+'2024-02-29'^^x:date != '2024-02-29Z'^^x:date => e:error
+!'2024-02-29'^^x:date => e:error";
