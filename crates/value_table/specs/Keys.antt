@@ -6,7 +6,8 @@ use Rattle.std.specs.declared.cmp.Ordering.TheVariants.{Equal}
 use Rattle.term_core.specs.declared.term.Term.{Term}
 use Rattle.term_core.specs.declared.term.Term.TheVariants.{Iri, Blank, Literal}
 use Rattle.term_core.specs.Order.{term_cmp}
-use Rattle.value_table.specs.Values.{Value, Numeric, WideNumber, Logical, IllFormed, Simple, Temporal, Tagged, Opaque, Resource, value_of, value_cmp}
+use Rattle.value_table.specs.Values.{Value, Numeric, WideNumber, Logical, IllFormed, Simple, Temporal, Tagged, Opaque, Resource}
+use Rattle.value_table.specs.Values.{value_of, value_cmp}
 use Rattle.term_core.specs.Moments.{Moment, Instant, Local, Day}
 
 -- where a moment's kind stands among the literals: those with a zone, those without one, days

@@ -23,7 +23,8 @@ years_same n =
     rw same (omega (arith, days_of_years-march_days (suc (n + 10000)), march_days-suc (n + 10000)))
 
 -- the count of a day
-count_same : (n m d : ℕ) → 1 ≤ m → 1 ≤ d → day_count (pos (suc n)) m d ≡ 3_652_791 + (moments.days_of_years n + (moments.days_of_months (suc n) (m - 1) + (d - 1)))
+count_same : (n m d : ℕ) → 1 ≤ m → 1 ≤ d
+    → day_count (pos (suc n)) m d ≡ 3_652_791 + (moments.days_of_years n + (moments.days_of_months (suc n) (m - 1) + (d - 1)))
 unfolding day_count
 count_same n m d low first = omega (arith, years_same n, months_same (suc n) (m - 1))
 
@@ -36,13 +37,15 @@ number_same n m d low first = rw day_count-epoch (omega (arith, signed_arith, co
 are_in : (n m d : ℕ) → suc n ≤ 9999 → IsCivilDate (pos (suc n)) m d → moments.is_date (suc n) m d ≡ true
 are_in n m d high h = grind (arith, nat_tests, h.1.0, h.1.1, h.2.0, h.2.1)
 
-number_of_civil : (n m d : ℕ) → suc n ≤ 9999 → IsCivilDate (pos (suc n)) m d → Some (days_from_civil (pos (suc n)) m d) ≡ moments.day_of_date (suc n) m d
+number_of_civil : (n m d : ℕ) → suc n ≤ 9999 → IsCivilDate (pos (suc n)) m d
+    → Some (days_from_civil (pos (suc n)) m d) ≡ moments.day_of_date (suc n) m d
 number_of_civil n m d high h =
     ap Some (number_same n m d h.1.0 h.2.0)
     ∙ sym (ap (λ is. cond is (Some (moments.day_number (suc n) m d)) None) (are_in n m d high h))
 
 -- the number of a date of the library
-pub number_of_date : (y m d : ℕ) (date : Date) → 1 ≤ y → y ≤ 9999 → IsYmd (pos y) (pos m) (pos d) date → Some (epoch_day date) ≡ moments.day_of_date y m d
+pub number_of_date : (y m d : ℕ) (date : Date) → 1 ≤ y → y ≤ 9999 → IsYmd (pos y) (pos m) (pos d) date
+    → Some (epoch_day date) ≡ moments.day_of_date y m d
 number_of_date zero m d date low high h = absurd (omega arith)
 number_of_date (suc n) m d date low high h =
     let month : date.month ≡ m = ap unsigned_abs h.1 in

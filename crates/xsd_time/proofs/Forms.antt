@@ -1,8 +1,10 @@
 -- Fields of fixed forms, and the numbers of digits.
-use Rattle.std.proofs.Common.{◌≡◌, ℕ, suc, ◌+◌, ◌-◌, ◌*◌, ◌^◌, ◌<◌, ◌≤◌, refl, sym, ap, ◌∙◌, arith, ◌&&◌, Bool, true, false, List, [], ◌∷◌, length}
+use Rattle.std.proofs.Common.{◌≡◌, ℕ, suc, ◌+◌, ◌-◌, ◌*◌, ◌^◌, ◌<◌, ◌≤◌, refl, sym, ap, ◌∙◌, arith}
+use Rattle.std.proofs.Common.{◌&&◌, Bool, true, false, List, [], ◌∷◌, length}
 use Rattle.std.proofs.Common.{mul-le-mul, take, drop, cond, Option, None, ℤ}
 use Rattle.std.proofs.lemmas.Nat.{pow-add}
-use Rattle.term_core.specs.Moments.{has_form, suits, date_time_form, day_at_front, second_at_front, fraction_of, moment_of_parts, moment_of_date_time}
+use Rattle.term_core.specs.Moments.{has_form, suits, date_time_form, day_at_front, second_at_front, fraction_of}
+use Rattle.term_core.specs.Moments.{moment_of_parts, moment_of_date_time}
 
 -- a text of another length does not have the form
 pub no_form : (form text : List ℕ) → (length text ≡ length form → ⊥) → false ≡ has_form form text
