@@ -1,5 +1,5 @@
 -- What a lexical form and a datatype are as a number: the number, or why there is none.
-use Rattle.std.specs.Prelude.{List, ℕ, Bool, cond, ◌&&◌, Option, Some, None}
+use Rattle.std.specs.Prelude.{List, ℕ, cond, ◌&&◌, Option, Some, None}
 use Rattle.term_core.specs.Numbers.{Number, Whole, Bounds, xsd_decimal, is_type, bounds_of, is_within, is_held}
 use Rattle.term_core.specs.Numbers.{is_integer, integer_value, is_decimal, decimal_value}
 
