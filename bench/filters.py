@@ -23,9 +23,11 @@ import tempfile
 ROOT = pathlib.Path(__file__).resolve().parent.parent
 HOME = ROOT / "bench" / "out" / "filters"
 STANDS_ON = [
-    "term_core", "xsd_num", "value_table", "sparql_tree", "sparql_value", "expr_value", "expr_eval",
+    "term_core", "xsd_num", "xsd_time", "value_table", "sparql_tree", "sparql_value", "expr_value", "expr_eval",
     "sparql_lex", "sparql_symbol", "sparql_grammar", "sparql_scope", "sparql_read",
 ]
+
+LIBRARIES = ["jiff_core"]
 
 ROWS = 1_000_000
 AIM = 150
@@ -109,7 +111,7 @@ def built():
     shutil.copyfile(ROOT / "bench" / "filter_rows.txt", home / "src" / "main.rt")
     lines = (ROOT / "crates.txt").read_text(encoding="utf-8").splitlines()
     kept = [line for line in lines if line.split(":")[0].split(" ")[0] in STANDS_ON]
-    (HOME / "crates.txt").write_text("\n".join([*kept, f"filter_rows: {' '.join(STANDS_ON)}"]) + "\n", encoding="utf-8")
+    (HOME / "crates.txt").write_text("\n".join([*kept, f"filter_rows: {' '.join([*STANDS_ON, *LIBRARIES])}"]) + "\n", encoding="utf-8")
     done = subprocess.run(["rt", "run"], cwd=home, input=text_of(1, "?n < 5").encode(), capture_output=True, check=False)
     if done.returncode != 0:
         sys.exit(done.stdout.decode(errors="replace")[-2000:] + done.stderr.decode(errors="replace")[-2000:])
