@@ -161,7 +161,7 @@ QUERIES = [
     ("objects of a verb that abbreviate much", objects_of_verb(lambda size: 185), ACCEPTED),
     ("verbs that abbreviate much", verbs(lambda size: 370), ACCEPTED),
     ("cells that abbreviate much", cells(lambda size: 125), ACCEPTED),
-    ("names that abbreviate more than is held, at the last size", names(half), lambda size: MEMORY if size > 200_000 else ACCEPTED),
+    ("names that abbreviate more than is held, at the last two sizes", names(half), lambda size: MEMORY if size > 100_000 else ACCEPTED),
     ("the last token is no token", lexical_fault, "lex"),
     ("the last token is wrong", missing_brace, NO_QUERY),
     ("the last variable is bound before", lambda size: filled(size, "SELECT * {", lambda n: f"BIND(1 AS ?v{n})", "BIND(1 AS ?v0)}"), "scope"),

@@ -215,32 +215,53 @@ fn bound(alloc: Global) -> Result<Element, Memory> {
     Ok(Element::bind(variable(alloc)?, name))
 }
 
+fn values(alloc: Global) -> Result<Element, Memory> {
+    let rows = rows(alloc)?;
+    Ok(Element::values(Items::new(alloc), rows))
+}
+
+/// A part of a group, by its number.
+fn part(alloc: Global, number: u32) -> Result<Element, Memory> {
+    match number {
+        0 => Ok(Element::triples(Items::new(alloc))),
+        1 => Ok(Element::union(groups(alloc)?)),
+        2 => Ok(Element::optional(none(alloc))),
+        3 => Ok(Element::minus(none(alloc))),
+        4 => Ok(Element::filter(variable(alloc)?)),
+        5 => bound(alloc),
+        _ => values(alloc),
+    }
+}
+
+/// A group with a part of each of the seven kinds.
 fn every_part(alloc: Global) -> Result<Group, Memory> {
     let mut elements = Vec::new(alloc);
-    elements.push(Element::triples(Items::new(alloc)))?;
-    elements.push(Element::union(groups(alloc)?))?;
-    elements.push(Element::optional(none(alloc)))?;
-    elements.push(Element::minus(none(alloc)))?;
-    elements.push(Element::filter(variable(alloc)?))?;
-    elements.push(bound(alloc)?)?;
-    elements.push(Element::values(Items::new(alloc), rows(alloc)?))?;
+    for number in 0..7 {
+        let part = part(alloc, number)?;
+        elements.push(part)?;
+    }
     Ok(Group::new(elements))
 }
 
-#[test]
-fn makes_each_part(rt: HostRuntime) -> Result<(), Fail> {
-    let alloc = rt.alloc();
-    let query = Query {
+/// The query of all variables of a group.
+fn query_of(alloc: Global, body: Group) -> Query {
+    Query {
         distinct: false,
         star: true,
         items: Items::<SelectItem>::new(alloc),
-        body: every_part(alloc)?,
+        body,
         keys: Items::<GroupKey>::new(alloc),
         having: Items::<Expr>::new(alloc),
         order: Items::<OrderKey>::new(alloc),
         limit: None,
         offset: 0,
-    };
-    assert_eq!(rt; query.body.elements.len(), 7);
+    }
+}
+
+#[test]
+fn makes_each_part(rt: HostRuntime) -> Result<(), Fail> {
+    let group = every_part(rt.alloc())?;
+    let query = query_of(rt.alloc(), group);
+    assert!(rt; query.body.elements.len() == 7);
     Ok(())
 }

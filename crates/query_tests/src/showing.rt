@@ -303,16 +303,26 @@ fn show_slice(
     out.push_str(format!(in alloc; " offset {offset}")?.as_str())
 }
 
-fn show_query(alloc: Global, query: &Query) -> Result<String, AllocError> {
-    let mut out = String::new(alloc);
+/// What is selected, and the group.
+fn show_selection(alloc: Global, out: &mut String, query: &Query) -> Result<(), AllocError> {
     out.push_str(if query.distinct { "distinct " } else { "" })?;
     out.push_str(if query.star { "* " } else { "" })?;
-    show_items(alloc, &mut out, query.items.as_slice())?;
-    show_group(alloc, &mut out, &query.body)?;
-    show_keys(alloc, &mut out, query.keys.as_slice())?;
-    show_having(alloc, &mut out, query.having.as_slice())?;
-    show_order(alloc, &mut out, query.order.as_slice())?;
-    show_slice(alloc, &mut out, query.limit, query.offset)?;
+    show_items(alloc, out, query.items.as_slice())?;
+    show_group(alloc, out, &query.body)
+}
+
+/// What follows the group.
+fn show_modifiers(alloc: Global, out: &mut String, query: &Query) -> Result<(), AllocError> {
+    show_keys(alloc, out, query.keys.as_slice())?;
+    show_having(alloc, out, query.having.as_slice())?;
+    show_order(alloc, out, query.order.as_slice())?;
+    show_slice(alloc, out, query.limit, query.offset)
+}
+
+fn show_query(alloc: Global, query: &Query) -> Result<String, AllocError> {
+    let mut out = String::new(alloc);
+    show_selection(alloc, &mut out, query)?;
+    show_modifiers(alloc, &mut out, query)?;
     Ok(out)
 }
 
