@@ -24,3 +24,6 @@ pub mod Trees
 pub mod Scopes
 pub mod Breaches
 pub mod Accepted
+pub mod Translation
+pub mod Variables
+pub mod Sizes

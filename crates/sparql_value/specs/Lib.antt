@@ -3,3 +3,4 @@ pub mod Operators
 pub mod Functions
 pub mod Evaluation
 pub mod Laws
+pub mod Solutions
