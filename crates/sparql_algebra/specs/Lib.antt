@@ -1,0 +1,4 @@
+pub mod Splits
+pub mod SplitTrees
+pub mod Prepared
+pub mod SplitLaws
