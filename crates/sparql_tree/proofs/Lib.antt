@@ -5,3 +5,4 @@ pub mod Data
 pub mod ExprViews
 pub mod GroupViews
 pub mod NameSets
+pub mod Counted
