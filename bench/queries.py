@@ -1,14 +1,16 @@
 #!/usr/bin/env python3
-"""Times the reading of queries up to the longest that is accepted.
+"""Times the reading and the preparing of queries up to the longest that is accepted.
 
 Usage: bench/queries.py [--runs N] [--only WORD]
 
-What reads is `sparql_read::read_query` in a small program, bench/query_reader.txt. It is built in bench/out/reader, a copy of the
-crates with the program beside them; the first build proves what it stands on, which takes some minutes. Each query is made by a
+What reads is `sparql_read::read_query`, and what prepares `sparql_algebra::prepare`, in a small program, bench/query_reader.txt. It
+is built in bench/out/reader, a copy of the crates with the program beside them; the first build proves what it stands on, which
+takes some minutes. Each query is made by a
 fixed rule, of as many pieces as fit into 65,536, 131,072 and 262,144 bytes. The table has the answer, the processor seconds of the
-best of three runs at each size, the growth from size to size (2 where the time is linear), and the peak memory at the last size. A
-query that is answered otherwise than its rule says stops the benchmark. Below the table stand the queries that miss the
-aim, one second at 262,144 bytes. Only Python's standard library is used.
+best of three runs at each size, the growth from size to size (2 where the time is linear), and the peak memory at the last size;
+then what preparing answers at the last size, its seconds, and how many readings these are. A query that is read otherwise than its
+rule says stops the benchmark. Below the table stand the queries that miss an aim: one second for reading 262,144 bytes, and three
+readings, or a twentieth of a second, for preparing. Only Python's standard library is used.
 """
 
 import argparse
@@ -21,10 +23,13 @@ import tempfile
 
 ROOT = pathlib.Path(__file__).resolve().parent.parent
 READER = ROOT / "bench" / "out" / "reader"
-STANDS_ON = ["term_core", "xsd_num", "sparql_tree", "sparql_lex", "sparql_symbol", "sparql_grammar", "sparql_scope", "sparql_read"]
+STANDS_ON = ["term_core", "xsd_num", "sparql_tree", "sparql_lex", "sparql_symbol", "sparql_grammar", "sparql_scope", "sparql_read",
+             "nt_text", "value_table", "sparql_value", "sparql_print", "sparql_algebra"]
 
 SIZES = [65_536, 131_072, 262_144]
 AIM = 1.0
+READINGS = 3.0
+LEAST = 0.05
 ACCEPTED = "accepted"
 NO_QUERY = "not a query"
 MEMORY = "memory"
@@ -129,6 +134,10 @@ QUERIES = [
     ("groups, 256 deep, again and again", in_group(lambda n: GROUPS), ACCEPTED),
     ("a union of many groups", lambda size: filled(size, "SELECT * {", lambda n: "{}UNION", "{}}"), ACCEPTED),
     ("many OPTIONAL", in_group(lambda n: "OPTIONAL{}"), ACCEPTED),
+    ("many MINUS", in_group(lambda n: "MINUS{}"), ACCEPTED),
+    ("90 patterns of long IRIs", lambda size: filled(size, "SELECT * {", lambda n: f"<a:{'x' * (size // 100)}> ?p ?o{n} ." if n < 90 else " " * size, "}"), ACCEPTED),
+    ("40 tables of long strings behind OPTIONAL", lambda size: filled(size, "SELECT * {", lambda n: f"OPTIONAL {{ VALUES ?v{n} {{ '{'x' * (size // 45)}' }} }}" if n < 40 else " " * size, "}"), ACCEPTED),
+    ("a table of 1,000 strings", lambda size: filled(size, "SELECT * { VALUES ?v {", lambda n: f"'{'x' * (size // 1100)}' " if n < 1000 else " " * size, "} }"), ACCEPTED),
     ("many VALUES rows of one variable", lambda size: filled(size, "SELECT * { VALUES ?a {", lambda n: f"{n} ", "} }"), ACCEPTED),
     ("many VALUES rows of two variables", lambda size: filled(size, "SELECT * { VALUES (?a ?b) {", lambda n: f"({n} UNDEF)", "} }"), ACCEPTED),
     ("a VALUES row of many variables, in order", wide_row(lambda n: f"?v{n:06}"), ACCEPTED),
@@ -170,10 +179,10 @@ QUERIES = [
 ]
 
 
-def told(program, path):
+def told(program, path, *words):
     """What the program tells of a text, its processor seconds, and its peak memory in bytes."""
     with open(path, "rb") as text:
-        child = subprocess.Popen([program], stdin=text, stdout=subprocess.PIPE)
+        child = subprocess.Popen([program, *words], stdin=text, stdout=subprocess.PIPE)
         line = child.stdout.read().decode(errors="replace").strip()
         _, status, usage = os.wait4(child.pid, 0)
     child.returncode = os.waitstatus_to_exitcode(status)
@@ -183,7 +192,7 @@ def told(program, path):
 
 
 def row(program, path, name, rule, answer, runs):
-    """Prints the row of a query, and gives its seconds at the last size."""
+    """Prints the row of a query, and gives which aims it misses."""
     seconds = []
     for size in SIZES:
         text = rule(size).encode()
@@ -196,18 +205,21 @@ def row(program, path, name, rule, answer, runs):
         if line != wanted:
             sys.exit(f"{name}: {line}, and not {wanted}")
         seconds.append(best)
+    prepared, longer, _ = min([told(program, path, "prepare") for _ in range(runs)], key=lambda run: run[1])
     growths = [f"{later / max(before, 0.001):.1f}" for before, later in zip(seconds, seconds[1:])]
-    cells = [f"{seconds[0]:.3f}", f"{seconds[1]:.3f}", growths[0], f"{seconds[2]:.3f}", growths[1], f"{memory / 1e6:.0f}"]
+    cells = [f"{seconds[0]:.3f}", f"{seconds[1]:.3f}", growths[0], f"{seconds[2]:.3f}", growths[1], f"{memory / 1e6:.0f}",
+             prepared, f"{longer:.3f}", f"{longer / max(seconds[2], 0.001):.1f}"]
     print(f"| {name} | {line} | " + " | ".join(cells) + " |", flush=True)
-    return seconds[-1]
+    missed = [f"one second for reading: {name}"] * (seconds[-1] >= AIM)
+    return missed + [f"three readings for preparing: {name}"] * (longer > max(READINGS * seconds[-1], LEAST))
 
 
 def table(program, path, given):
-    """Prints the rows of queries, and gives the names of those that miss the aim at the last size."""
-    print(f"| Query | Answer | {SIZES[0]:,} | {SIZES[1]:,} | Growth | {SIZES[2]:,} | Growth | Memory in MB |")
-    print("|---|---|---:|---:|---:|---:|---:|---:|")
+    """Prints the rows of queries, and gives which aims are missed at the last size."""
+    print(f"| Query | Answer | {SIZES[0]:,} | {SIZES[1]:,} | Growth | {SIZES[2]:,} | Growth | Memory in MB | Prepared | {SIZES[2]:,} | Readings |")
+    print("|---|---|---:|---:|---:|---:|---:|---:|---|---:|---:|")
     chosen = [query for query in QUERIES if given.only in query[0]]
-    return [name for name, rule, answer in chosen if row(program, path, name, rule, answer, given.runs) >= AIM]
+    return [missed for name, rule, answer in chosen for missed in row(program, path, name, rule, answer, given.runs)]
 
 
 def built():
@@ -235,8 +247,8 @@ def main():
     program = built()
     with tempfile.TemporaryDirectory() as scratch:
         path = os.path.join(scratch, "query.rq")
-        for name in table(program, path, given):
-            print(f"misses the aim of {AIM:.0f} s: {name}")
+        for missed in table(program, path, given):
+            print(f"misses the aim of {missed}")
 
 
 if __name__ == "__main__":

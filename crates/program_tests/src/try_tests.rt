@@ -87,7 +87,7 @@ const REFUSALS: [(&[u8], &[u8], &str, u8, &str); 9] = [
         4,
         "sage: data line 1\n",
     ),
-    (b"", b"no query", "try|d.nt|q.rq", 6, "sage: query form\n"),
+    (b"", b"no query", "try|d.nt|q.rq", 6, "sage: query\n"),
     (
         b"no triple",
         b"no query",

@@ -14,8 +14,6 @@ mod limit_tests;
 #[cfg(test)]
 mod part_tests;
 #[cfg(test)]
-mod pattern_tests;
-#[cfg(test)]
 mod scope_tests;
 #[cfg(test)]
 mod showing;

@@ -62,7 +62,7 @@ counted_pages count steps longest pages c s l = λ i. counts_line (c i) (s i) (l
 -- why a query over triples was not read
 pub not_selected : (e : Refusal) (document query quanta : List ℕ) (triples : List Triple) → IsData document triples → ReadsQuery (Err e) query → Answered (Err e) document query quanta
 not_selected refusals.Memory document query quanta triples is_data h = tt
-not_selected refusals.Query document query quanta triples is_data h = ((triples, is_data), h)
+not_selected (refusals.Query cause) document query quanta triples is_data h = ((triples, is_data), h)
 not_selected refusals.Words document query quanta triples is_data h = absurd h
 not_selected (refusals.Data fault) document query quanta triples is_data h = absurd h
 not_selected (refusals.File name) document query quanta triples is_data h = absurd h

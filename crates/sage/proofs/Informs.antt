@@ -26,7 +26,7 @@ no_lines faults.Unread e store_name files before now is unread none = named e is
     named refusals.Words n = absurd n
     named (refusals.Data fault) n = absurd n
     named refusals.NotAStore n = absurd n
-    named refusals.Query n = absurd n
+    named (refusals.Query cause) n = absurd n
     named refusals.Output n = absurd n
 
 -- no fault is another
@@ -43,7 +43,7 @@ module _ (store_name : List ℕ) (before after : Io) where
   informs_refused refusals.NotAStore same why = (why, same)
   informs_refused refusals.Words same why = absurd why
   informs_refused (refusals.Data fault) same why = absurd why
-  informs_refused refusals.Query same why = absurd why
+  informs_refused (refusals.Query cause) same why = absurd why
   informs_refused refusals.Output same why = absurd why
 
   -- where the statuses have to come
@@ -75,12 +75,13 @@ module _ (store_name : List ℕ) (before after : Io) where
   }
   info_must (Err refusals.Words) h = absurd h
   info_must (Err (refusals.Data fault)) h = absurd h
-  info_must (Err refusals.Query) h = absurd h
+  info_must (Err (refusals.Query cause)) h = absurd h
 
   -- a message that found no memory
   pub info_wants : (ending : Ending) → TakesMemory ending → Informs store_name before after ending → Informs store_name before after (Err refusals.Memory)
   info_wants (Err (refusals.File name)) takes h = h.1.untouched
   info_wants (Err (refusals.Data fault)) takes h = absurd h
+  info_wants (Err (refusals.Query cause)) takes h = absurd h
   info_wants ending takes h = absurd takes
 
   -- nothing was put out
@@ -92,7 +93,7 @@ module _ (store_name : List ℕ) (before after : Io) where
   info_unwritten (Err refusals.Output) none h = absurd (none tt)
   info_unwritten (Err refusals.Words) none h = absurd h
   info_unwritten (Err (refusals.Data fault)) none h = absurd h
-  info_unwritten (Err refusals.Query) none h = absurd h
+  info_unwritten (Err (refusals.Query cause)) none h = absurd h
 
   -- no file changed
   pub info_keeps : (ending : Ending) → Informs store_name before after ending → after.files ≡ before.files
@@ -103,4 +104,4 @@ module _ (store_name : List ℕ) (before after : Io) where
   info_keeps (Err refusals.Output) h = h.files
   info_keeps (Err refusals.Words) h = absurd h
   info_keeps (Err (refusals.Data fault)) h = absurd h
-  info_keeps (Err refusals.Query) h = absurd h
+  info_keeps (Err (refusals.Query cause)) h = absurd h

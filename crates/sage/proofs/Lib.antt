@@ -6,6 +6,7 @@ pub mod Sinks
 pub mod Answering
 pub mod Opened
 pub mod StoreFiles
+pub mod Selecting
 pub mod Tries
 pub mod Builds
 pub mod Informs

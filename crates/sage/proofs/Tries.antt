@@ -3,7 +3,6 @@ use Rattle.std.proofs.Common.{◌≡◌, ◌≤◌, ◌⊎◌, ℕ, List, [], �
 use Rattle.term_core.specs.declared.term.Triple.{Triple}
 use Rattle.sage_outside.specs.Causes.{Rose}
 use Rattle.sage_outside.specs.Shelf.{Files, Lacks}
-use Rattle.pattern_query.specs.Query.{IsPatternQuery}
 use Rattle.sage.specs.declared.refusal.Refusal.{Refusal}
 use Rattle.sage.specs.declared.refusal.Refusal.TheVariants as refusals
 use Rattle.sage.specs.World.{Io}
@@ -11,10 +10,10 @@ use Rattle.sage.specs.Ending.{Ending, status_of, TakesMemory}
 use Rattle.sage.specs.Told.{TellsFile, IsUntouched}
 use Rattle.sage.specs.Files.{WhyNotRead}
 use Rattle.sage.specs.Data.{IsData, IsRefusedDocument}
-use Rattle.sage.specs.Answers.{Answers, Answered, NoQuery}
+use Rattle.sage.specs.Answers.{Answers, Answered, AsksPattern, WhyNoQuery}
 use Rattle.sage.specs.Try.{AreFilesRead, ArePrefixes, IsAnswerOf, WhyOneUnread, WhyUnanswered, Tries, TryMust}
 use Rattle.sage.specs.Runs.{MayPutOut}
-use Rattle.sage.proofs.Limits.{answers_back, refused_back, refused_none, some_data_back, no_query_back}
+use Rattle.sage.proofs.Limits.{answers_back, refused_back, refused_none, some_data_back, why_no_query_back, not_asked}
 use Rattle.sage.proofs.Files.{reads_there, one_read, unread_rose}
 
 -- ---- reading and answering
@@ -26,7 +25,7 @@ first_unread (refusals.File name) data_name query_name files before now why = in
 first_unread refusals.Words data_name query_name files before now why = absurd why
 first_unread (refusals.Data fault) data_name query_name files before now why = absurd why
 first_unread refusals.NotAStore data_name query_name files before now why = absurd why
-first_unread refusals.Query data_name query_name files before now why = absurd why
+first_unread (refusals.Query cause) data_name query_name files before now why = absurd why
 first_unread refusals.Output data_name query_name files before now why = absurd why
 
 -- the document was read, and the query was not
@@ -41,7 +40,7 @@ second_unread (refusals.File name) data_name query_name files seen before betwee
 second_unread refusals.Words data_name query_name files seen before between now same later there why = absurd why
 second_unread (refusals.Data fault) data_name query_name files seen before between now same later there why = absurd why
 second_unread refusals.NotAStore data_name query_name files seen before between now same later there why = absurd why
-second_unread refusals.Query data_name query_name files seen before between now same later there why = absurd why
+second_unread (refusals.Query cause) data_name query_name files seen before between now same later there why = absurd why
 second_unread refusals.Output data_name query_name files seen before between now same later there why = absurd why
 
 -- a file that was not read has no answer
@@ -51,7 +50,7 @@ unread_unanswered (refusals.File name) data_name query_name files before now why
 unread_unanswered refusals.Words data_name query_name files before now why = absurd why
 unread_unanswered (refusals.Data fault) data_name query_name files before now why = absurd why
 unread_unanswered refusals.NotAStore data_name query_name files before now why = absurd why
-unread_unanswered refusals.Query data_name query_name files before now why = absurd why
+unread_unanswered (refusals.Query cause) data_name query_name files before now why = absurd why
 unread_unanswered refusals.Output data_name query_name files before now why = absurd why
 
 module _ (files : Option Files) (data_name query_name quanta document query : List ℕ) (prefixes : ArePrefixes files data_name query_name document query) where
@@ -77,7 +76,7 @@ module _ (files : Option Files) (data_name query_name quanta document query : Li
     are_read = are_read;
     refused = refused_back prefixes.document_read.file fault (subst (λ d. IsRefusedDocument d fault) prefixes.document_read.is h);
   }
-  unanswered refusals.Query before now h =
+  unanswered (refusals.Query cause) before now h =
       let some = some_data_back prefixes.document_read.file (subst (λ d. (triples : List Triple) × IsData d triples) prefixes.document_read.is h.0) in
       record {
         document = prefixes.document_read.file;
@@ -85,7 +84,7 @@ module _ (files : Option Files) (data_name query_name quanta document query : Li
         are_read = are_read;
         triples = some.0;
         is_data = some.1;
-        refused = no_query_back prefixes.query_read.file (subst NoQuery prefixes.query_read.is h.1);
+        refused = why_no_query_back prefixes.query_read.file cause (subst (WhyNoQuery cause) prefixes.query_read.is h.1);
       }
   unanswered refusals.Words before now h = absurd h
   unanswered (refusals.File name) before now h = absurd h
@@ -108,7 +107,7 @@ module _ (data_name query_name quanta : List ℕ) (before after : Io) where
     },
   )
   tries_refused (refusals.Data fault) same why = (why, same)
-  tries_refused refusals.Query same why = (why, same)
+  tries_refused (refusals.Query cause) same why = (why, same)
   tries_refused refusals.Words same why = absurd why
   tries_refused refusals.NotAStore same why = absurd why
   tries_refused refusals.Output same why = absurd why
@@ -127,7 +126,7 @@ module _ (data_name query_name quanta : List ℕ) (before after : Io) where
             absurd (none answers.triples (subst (λ bytes. IsData bytes answers.triples) (one_read before.files data_name document h.answer.document has_data h.answer.are_read.document_reads) answers.is_data));
         refuses_query = λ document query has_data has_query triples is_data none still.
             absurd (none answers.names answers.pattern
-            (subst (λ bytes. IsPatternQuery bytes answers.names answers.pattern) (one_read before.files query_name query h.answer.query has_query h.answer.are_read.query_reads) answers.is_query));
+            (subst (λ bytes. AsksPattern bytes answers.names answers.pattern) (one_read before.files query_name query h.answer.query has_query h.answer.are_read.query_reads) answers.is_query));
         complete = λ document query has_data has_query triples is_data names pattern is_query quiet. inl refl;
       }
   try_must (Err refusals.Memory) h = record {
@@ -157,13 +156,13 @@ module _ (data_name query_name quanta : List ℕ) (before after : Io) where
         refuses_query = λ document query has_data has_query triples is_data none still. absurd (refused_none document fault (refused document has_data) triples is_data);
         complete = λ document query has_data has_query triples is_data names pattern is_query quiet. absurd (refused_none document fault (refused document has_data) triples is_data);
       }
-  try_must (Err refusals.Query) h = record {
+  try_must (Err (refusals.Query cause)) h = record {
     no_file = λ lacks. absurd (both_there h.0.document h.0.query h.0.are_read lacks);
     refuses_data = λ document query has_data has_query none still.
         absurd (none h.0.triples (subst (λ bytes. IsData bytes h.0.triples) (one_read before.files data_name document h.0.document has_data h.0.are_read.document_reads) h.0.is_data));
     refuses_query = λ document query has_data has_query triples is_data none still. inl refl;
     complete = λ document query has_data has_query triples is_data names pattern is_query quiet.
-        absurd (subst NoQuery (one_read before.files query_name query h.0.query has_query h.0.are_read.query_reads) h.0.refused names pattern is_query);
+        absurd (not_asked query cause (subst (WhyNoQuery cause) (one_read before.files query_name query h.0.query has_query h.0.are_read.query_reads) h.0.refused) names pattern is_query);
   }
   try_must (Err refusals.Output) h =
       let answers = h.answer.answers in
@@ -173,7 +172,7 @@ module _ (data_name query_name quanta : List ℕ) (before after : Io) where
             absurd (none answers.triples (subst (λ bytes. IsData bytes answers.triples) (one_read before.files data_name document h.answer.document has_data h.answer.are_read.document_reads) answers.is_data));
         refuses_query = λ document query has_data has_query triples is_data none still.
             absurd (none answers.names answers.pattern
-            (subst (λ bytes. IsPatternQuery bytes answers.names answers.pattern) (one_read before.files query_name query h.answer.query has_query h.answer.are_read.query_reads) answers.is_query));
+            (subst (λ bytes. AsksPattern bytes answers.names answers.pattern) (one_read before.files query_name query h.answer.query has_query h.answer.are_read.query_reads) answers.is_query));
         complete = λ document query has_data has_query triples is_data names pattern is_query quiet. absurd (quiet.out h.rose);
       }
   try_must (Err refusals.Words) h = absurd h
@@ -184,6 +183,7 @@ module _ (data_name query_name quanta : List ℕ) (before after : Io) where
   try_wants (Err (refusals.File name)) takes (inl h) = h.1.untouched
   try_wants (Err (refusals.File name)) takes (inr h) = h.1.untouched
   try_wants (Err (refusals.Data fault)) takes h = h.1
+  try_wants (Err (refusals.Query cause)) takes h = h.1
   try_wants ending takes h = absurd takes
 
   -- nothing was put out
@@ -193,7 +193,7 @@ module _ (data_name query_name quanta : List ℕ) (before after : Io) where
   try_unwritten (Err (refusals.File name)) none (inl h) = h.1.untouched.out
   try_unwritten (Err (refusals.File name)) none (inr h) = h.1.untouched.out
   try_unwritten (Err (refusals.Data fault)) none h = h.1.out
-  try_unwritten (Err refusals.Query) none h = h.1.out
+  try_unwritten (Err (refusals.Query cause)) none h = h.1.out
   try_unwritten (Err refusals.Output) none h = absurd (none tt)
   try_unwritten (Err refusals.Words) none h = absurd h
   try_unwritten (Err refusals.NotAStore) none h = absurd h
@@ -205,7 +205,7 @@ module _ (data_name query_name quanta : List ℕ) (before after : Io) where
   try_keeps (Err (refusals.File name)) (inl h) = h.1.untouched.files
   try_keeps (Err (refusals.File name)) (inr h) = h.1.untouched.files
   try_keeps (Err (refusals.Data fault)) h = h.1.files
-  try_keeps (Err refusals.Query) h = h.1.files
+  try_keeps (Err (refusals.Query cause)) h = h.1.files
   try_keeps (Err refusals.Output) h = h.files
   try_keeps (Err refusals.Words) h = absurd h
   try_keeps (Err refusals.NotAStore) h = absurd h

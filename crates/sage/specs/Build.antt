@@ -78,7 +78,7 @@ Builds data_name store_name before after (Err (refusals.Data fault)) = IsDocumen
 Builds data_name store_name before after (Err refusals.Output) = IsBuildUntold data_name store_name before after
 Builds data_name store_name before after (Err refusals.Words) = ⊥
 Builds data_name store_name before after (Err refusals.NotAStore) = ⊥
-Builds data_name store_name before after (Err refusals.Query) = ⊥
+Builds data_name store_name before after (Err (refusals.Query cause)) = ⊥
 
 -- Where a status of `build` has to come, want of memory aside.
 pub record BuildMust (data_name : List ℕ) (before after : Io) (status : ℕ) : Type 0 where

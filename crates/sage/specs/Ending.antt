@@ -5,6 +5,7 @@ use Rattle.sage.specs.declared.refusal.Refusal.{Refusal}
 use Rattle.sage.specs.declared.refusal.Refusal.TheVariants as refusals
 use Rattle.sage.specs.World.{SinkState}
 use Rattle.sage.specs.Data.{data_message}
+use Rattle.sage.specs.QueryMessages.{query_message}
 
 -- what a command that ended well tells standard error, or why it was refused
 abbrev pub Ending : Type 0
@@ -18,7 +19,7 @@ status_of (Err refusals.Words) = 2
 status_of (Err (refusals.File name)) = 3
 status_of (Err (refusals.Data fault)) = 4
 status_of (Err refusals.NotAStore) = 5
-status_of (Err refusals.Query) = 6
+status_of (Err (refusals.Query cause)) = 6
 status_of (Err refusals.Output) = 9
 
 -- the line for a file that is not read or written
@@ -33,7 +34,7 @@ message_of (Err refusals.Words) = codes "sage: words\n"
 message_of (Err (refusals.File name)) = file_message name
 message_of (Err (refusals.Data fault)) = data_message fault
 message_of (Err refusals.NotAStore) = codes "sage: not a store\n"
-message_of (Err refusals.Query) = codes "sage: query form\n"
+message_of (Err (refusals.Query cause)) = query_message cause
 message_of (Err refusals.Output) = codes "sage: output\n"
 
 -- the refusal names the file, or there was no memory for its name
@@ -64,6 +65,7 @@ abbrev pub TakesMemory : Ending → Type 0
 TakesMemory (Ok told) = ⊥
 TakesMemory (Err (refusals.File name)) = Unit {0}
 TakesMemory (Err (refusals.Data fault)) = Unit {0}
+TakesMemory (Err (refusals.Query cause)) = Unit {0}
 TakesMemory (Err refusal) = ⊥
 
 -- it was ended so, or its message found no memory

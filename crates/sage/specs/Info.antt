@@ -59,7 +59,7 @@ Informs store_name before after (Err refusals.NotAStore) = OverFile before.files
 Informs store_name before after (Err refusals.Output) = IsInfoUntold store_name before after
 Informs store_name before after (Err refusals.Words) = ⊥
 Informs store_name before after (Err (refusals.Data fault)) = ⊥
-Informs store_name before after (Err refusals.Query) = ⊥
+Informs store_name before after (Err (refusals.Query cause)) = ⊥
 
 -- Where a status of `info` has to come, want of memory aside.
 pub record InfoMust (store_name : List ℕ) (before after : Io) (status : ℕ) : Type 0 where

@@ -11,3 +11,4 @@ pub mod Try
 pub mod Build
 pub mod Info
 pub mod Runs
+pub mod QueryMessages

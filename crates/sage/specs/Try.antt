@@ -6,14 +6,14 @@ use Rattle.term_core.specs.Mappings.{Name}
 use Rattle.nt_text.specs.declared.fault.DataFault.{DataFault}
 use Rattle.sage_outside.specs.Causes.{Rose}
 use Rattle.sage_outside.specs.Shelf.{Files, Lacks}
-use Rattle.pattern_query.specs.Query.{IsPatternQuery}
 use Rattle.sage.specs.declared.refusal.Refusal.{Refusal}
 use Rattle.sage.specs.declared.refusal.Refusal.TheVariants as refusals
+use Rattle.sage.specs.declared.refusal.QueryRefusal.{QueryRefusal}
 use Rattle.sage.specs.World.{Io}
 use Rattle.sage.specs.Ending.{Ending, HasGot, HasGotPrefix}
 use Rattle.sage.specs.Told.{TellsFile, HasBytes, IsPrefixOf, IsUntouched, IsFileUnread, IsQuiet}
 use Rattle.sage.specs.Data.{IsData, IsRefusedDocument, NoData}
-use Rattle.sage.specs.Answers.{Answers, NoQuery}
+use Rattle.sage.specs.Answers.{Answers, AsksPattern, NoQuery, WhyNoQuery}
 
 -- the bytes of both files
 pub record AreFilesRead (files : Option Files) (data_name query_name document query : List ℕ) : Type 0 where
@@ -39,14 +39,14 @@ pub record IsDataRefused (files : Option Files) (data_name query_name : List ℕ
   pub are_read : AreFilesRead files data_name query_name document query
   pub refused : IsRefusedDocument document fault
 
--- the document is good, and the query is refused
-pub record IsQueryRefused (files : Option Files) (data_name query_name : List ℕ) : Type 0 where
+-- the document is good, and the query is not answered: this is the first cause
+pub record IsQueryRefused (files : Option Files) (data_name query_name : List ℕ) (cause : QueryRefusal) : Type 0 where
   pub document : List ℕ
   pub query : List ℕ
   pub are_read : AreFilesRead files data_name query_name document query
   pub triples : List Triple
   pub is_data : IsData document triples
-  pub refused : NoQuery query
+  pub refused : WhyNoQuery cause query
 
 -- why one of both files was not read, the document's first
 abbrev pub WhyOneUnread : Refusal → List ℕ → List ℕ → Option Files → ℕ → ℕ → Type 0
@@ -59,7 +59,7 @@ WhyOneUnread refusal data_name query_name files before now = ⊥
 -- why there is no answer over the files
 abbrev pub WhyUnanswered : Refusal → List ℕ → List ℕ → Option Files → ℕ → ℕ → Type 0
 WhyUnanswered (refusals.Data fault) data_name query_name files before now = IsDataRefused files data_name query_name fault
-WhyUnanswered refusals.Query data_name query_name files before now = IsQueryRefused files data_name query_name
+WhyUnanswered (refusals.Query cause) data_name query_name files before now = IsQueryRefused files data_name query_name cause
 WhyUnanswered refusal data_name query_name files before now = WhyOneUnread refusal data_name query_name files before now
 
 -- the answer was put out, and its counts are to be told
@@ -85,7 +85,7 @@ Tries data_name query_name quanta before after (Err refusals.Memory) = IsUntouch
 Tries data_name query_name quanta before after (Err (refusals.File name)) =
     ((name ≡ data_name) × IsFileUnread [] data_name before after) ⊎ ((name ≡ query_name) × IsFileUnread (data_name ∷ []) query_name before after)
 Tries data_name query_name quanta before after (Err (refusals.Data fault)) = IsDataRefused before.files data_name query_name fault × IsUntouched before after
-Tries data_name query_name quanta before after (Err refusals.Query) = IsQueryRefused before.files data_name query_name × IsUntouched before after
+Tries data_name query_name quanta before after (Err (refusals.Query cause)) = IsQueryRefused before.files data_name query_name cause × IsUntouched before after
 Tries data_name query_name quanta before after (Err refusals.Output) = IsAnsweredInPart data_name query_name quanta before after
 Tries data_name query_name quanta before after (Err refusals.Words) = ⊥
 Tries data_name query_name quanta before after (Err refusals.NotAStore) = ⊥
@@ -98,5 +98,5 @@ pub record TryMust (data_name query_name : List ℕ) (before after : Io) (status
   pub refuses_query : (document query : List ℕ) → TellsFile before.files data_name document → TellsFile before.files query_name query →
       (triples : List Triple) → IsData document triples → NoQuery query → (Rose before.faults after.faults → ⊥) → (status ≡ 6) ⊎ (status ≡ 1)
   pub complete : (document query : List ℕ) → TellsFile before.files data_name document → TellsFile before.files query_name query →
-      (triples : List Triple) → IsData document triples → (names : List Name) (pattern : Pattern) → IsPatternQuery query names pattern →
+      (triples : List Triple) → IsData document triples → (names : List Name) (pattern : Pattern) → AsksPattern query names pattern →
       IsQuiet before after → (status ≡ 0) ⊎ (status ≡ 1)

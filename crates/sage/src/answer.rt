@@ -11,12 +11,12 @@ ghost use Rattle.store_image.specs.Holds.{Holds};
 ghost use Rattle.triple_store.specs.Stores.{IsStoreOf};
 ghost use Rattle.triple_store.specs.Ranges.{IsInStore};
 ghost use Rattle.pattern_page.specs.PagesOf.{IsPart, MayRefuse};
-ghost use Rattle.sage.specs.Answers.{Answered, AnswersOr, AnswersOver, IsMemory, ReadsQuery};
+ghost use Rattle.sage.specs.Answers.{Answered, AnswersOr, AnswersOver, IsMemory};
 
 use crate::document::{image_of, read_data};
 use crate::refusal::Refusal;
+use crate::select::{Select, read_select};
 use pattern_page::{PageFault, Part, counts_text, follow_pages, push_header};
-use pattern_query::{QueryFault, SelectQuery, read_query};
 use sage_outside::{Blocks, NeverBlocks, StoreFault};
 use std::alloc::Global;
 use term_core::{Items, Memory, Text, Triple};
@@ -28,16 +28,6 @@ use triple_store::Store;
 pub struct Answer {
     pub text: Vec<u8>,
     pub counts: String,
-}
-
-fn read_select(alloc: Global, query: &[u8]) -> Result<SelectQuery, Refusal>
-    ensures { ReadsQuery result query.now }
-{
-    match read_query(alloc, query) {
-        Ok(select) => Ok(select),
-        Err(QueryFault::Form) => Err(Refusal::Query),
-        Err(QueryFault::Memory) => Err(Refusal::Memory),
-    }
 }
 
 /// The answer over a part of a store, in pages of as many steps as the quanta say.
@@ -66,7 +56,7 @@ fn answer_part<B: Blocks>(
 fn answer_store<B: Blocks>(
     alloc: Global,
     store: &mut Store<B>,
-    select: &SelectQuery,
+    select: &Select,
     quanta: &[u32],
 ) -> Result<Answer, PageFault>
     requires some { AreQuanta quanta.now }
@@ -94,7 +84,7 @@ fn memory_of(fault: PageFault) -> Memory
 fn answer_opened<B: Blocks>(
     alloc: Global,
     store: Store<B>,
-    select: &SelectQuery,
+    select: &Select,
     quanta: &[u32],
 ) -> (Result<Answer, PageFault>, B)
     requires some { AreQuanta quanta.now }
@@ -112,7 +102,7 @@ fn answer_opened<B: Blocks>(
 fn answer_image(
     alloc: Global,
     image: &[u8],
-    select: &SelectQuery,
+    select: &Select,
     quanta: &[u32],
 ) -> Result<Answer, Memory>
     requires held { (L : List Triples) × Holds L image.now }
@@ -138,7 +128,7 @@ fn answer_image(
 fn answer_over(
     alloc: Global,
     triples: Items<Triple>,
-    select: &SelectQuery,
+    select: &Select,
     quanta: &[u32],
 ) -> Result<Answer, Memory>
     requires limits { AreWithinLimits triples }

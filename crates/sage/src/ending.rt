@@ -2,11 +2,13 @@
 ghost use Rattle.std.specs.Prelude.{◌≡◌, [], string_bytes, IfOk};
 ghost use Rattle.sage.specs.World.{sink_state};
 ghost use Rattle.sage.specs.Data.{data_message as message_of_data};
+ghost use Rattle.sage.specs.QueryMessages.{size_word as word_of_size, query_message as message_of_query};
 ghost use Rattle.sage.specs.Ending.{Ends, IsTold, file_message as message_of_file};
 
-use crate::refusal::Refusal;
+use crate::refusal::{QueryRefusal, Refusal};
 use nt_text::DataFault;
 use sage_outside::Sink;
+use sparql_tree::{QueryFault, Size};
 use std::alloc::Global;
 use term_core::{Memory, Text};
 
@@ -42,6 +44,41 @@ fn data_message(alloc: Global, fault: DataFault) -> Result<String, Memory>
     Ok(message?)
 }
 
+/// The word of a limit that is passed.
+fn size_word(size: Size) -> &'static str
+    ensures { result.now ≡ word_of_size size }
+{
+    match size {
+        Size::Text => "text",
+        Size::Nesting => "nesting",
+        Size::Depth => "depth",
+        Size::Weight => "weight",
+        Size::Part => "part",
+    }
+}
+
+/// The message of a query that is not answered.
+fn query_message(alloc: Global, cause: QueryRefusal) -> Result<String, Memory>
+    ensures { IfOk result (λ message. string_bytes message ≡ message_of_query cause) }
+{
+    let message = match cause {
+        QueryRefusal::Fault(QueryFault::TooLarge(size)) => {
+            format!(in alloc; "sage: query too large {}\n", size_word(size))
+        }
+        QueryRefusal::Fault(QueryFault::Lex { at }) => format!(in alloc; "sage: query lex {at}\n"),
+        QueryRefusal::Fault(QueryFault::Unsupported { what }) => {
+            format!(in alloc; "sage: query unsupported {}\n", what.as_str())
+        }
+        QueryRefusal::Fault(QueryFault::NotAQuery) => format!(in alloc; "sage: query\n"),
+        QueryRefusal::Fault(QueryFault::Scope { variable }) => {
+            format!(in alloc; "sage: query scope {}\n", variable.as_str())
+        }
+        QueryRefusal::Fault(QueryFault::Memory) => format!(in alloc; "sage: memory\n"),
+        QueryRefusal::Form => format!(in alloc; "sage: query form\n"),
+    };
+    Ok(message?)
+}
+
 /// Tells standard error a message, and answers the status. A failure of standard error changes
 /// nothing else.
 #[tactic(auto, using(crate::proofs::Sinks::put_told))]
@@ -70,7 +107,10 @@ pub(crate) fn end<E: Sink>(alloc: Global, err: &mut E, ended: Result<Text, Refus
             Err(_) => tell(err, b"sage: memory\n", 1),
         },
         Err(Refusal::NotAStore) => tell(err, b"sage: not a store\n", 5),
-        Err(Refusal::Query) => tell(err, b"sage: query form\n", 6),
+        Err(Refusal::Query { cause }) => match query_message(alloc, cause) {
+            Ok(message) => tell(err, message.as_bytes(), 6),
+            Err(_) => tell(err, b"sage: memory\n", 1),
+        },
         Err(Refusal::Output) => tell(err, b"sage: output\n", 9),
     }
 }

@@ -9,6 +9,7 @@ mod file;
 mod info;
 mod info_lines;
 mod refusal;
+mod select;
 mod top;
 mod try_query;
 mod words;

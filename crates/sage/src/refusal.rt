@@ -2,8 +2,18 @@
 ghost use Rattle.sage.specs.Ending.{NamesFile};
 
 use nt_text::DataFault;
+use sparql_tree::QueryFault;
 use std::alloc::Global;
 use term_core::Text;
+
+/// Why a query is not answered.
+#[derive(Debug, Drop)]
+pub enum QueryRefusal {
+    /// Its text is not accepted: the first cause.
+    Fault(QueryFault),
+    /// It asks for more than is answered yet.
+    Form,
+}
 
 /// Why a command does not do its work: one type for all commands, since each status but 0 is that of
 /// one of these.
@@ -19,8 +29,8 @@ pub enum Refusal {
     Data { fault: DataFault },
     /// The file begins with no header of a store file of so many blocks.
     NotAStore,
-    /// The query is not of the grammar.
-    Query,
+    /// The query is not answered.
+    Query { cause: QueryRefusal },
     /// The output failed.
     Output,
 }

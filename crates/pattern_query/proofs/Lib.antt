@@ -1,8 +1,0 @@
-pub mod Utf8
-pub mod Encoded
-pub mod TerminalLaws
-pub mod QueryNames
-pub mod QueryTokens
-pub mod QueryLaws
-pub mod QueryVariables
-pub mod QueryReads

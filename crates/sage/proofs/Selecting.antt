@@ -1,0 +1,55 @@
+-- What a text that is accepted, or refused, says of the query that is answered.
+use Rattle.std.proofs.Common.{◌≡◌, ◌≢◌, ◌⊎◌, ℕ, List, map, Some, Ok, Err, Result, Bool, true, false, sym, subst, ap, ◌∙◌, inl, inr, refl}
+use Rattle.std.specs.Prelude.{if◌then◌else◌}
+use Rattle.term_core.specs.declared.pattern.Pattern.{Pattern}
+use Rattle.term_core.specs.Bags.{In, distinct}
+use Rattle.term_core.specs.Mappings.{Name, same_name}
+use Rattle.term_core.proofs.Distinct.{from_In-distinct}
+use Rattle.term_core.proofs.Merges.{names_same, name_itself}
+use Rattle.sparql_tree.specs.Bgp.{is_variable}
+use Rattle.sparql_tree.specs.Groups.{Query, SelectItem}
+use Rattle.sparql_tree.specs.Trees.{IsTree}
+use Rattle.sparql_tree.specs.Translation.{translation}
+use Rattle.sparql_tree.specs.Variables.{in_scope, variables}
+use Rattle.sparql_tree.specs.declared.fault.QueryFault.{QueryFault}
+use Rattle.sparql_tree.specs.declared.fault.QueryFault.TheVariants as faults
+use Rattle.plan_tree.specs.Laws.{AreVariables}
+use Rattle.sparql_algebra.specs.Splits.{Split, answered}
+use Rattle.sparql_algebra.specs.Prepared.{Accepted, IsNotPrepared, WhyNotPrepared}
+use Rattle.sparql_algebra.specs.Modifiers.{is_plain}
+use Rattle.sage.specs.declared.refusal.Refusal.{Refusal}
+use Rattle.sage.specs.declared.refusal.Refusal.TheVariants as refusals
+use Rattle.sage.specs.declared.refusal.QueryRefusal.TheVariants as query_refusals
+use Rattle.sage.specs.declared.select.Select.{Select}
+use Rattle.sage.specs.Answers.{AsksPattern, AsksMore, WhyNoQuery, ReadsQuery, SelectsOf, only_pattern}
+
+module _ (text : List ℕ) (split : Split) (accepted : Accepted text split) where
+  -- what else would be accepted is the same
+  none_else : ((pattern : Pattern) → is_plain split.query ≡ true → only_pattern split.parts ≡ Some pattern → ⊥) → (names : List Name) (pattern : Pattern) → AsksPattern text names pattern → ⊥
+  none_else none names pattern asks =
+      let same : asks.split ≡ split = one_split text asks.split split asks.accepted accepted in
+      none pattern (subst (λ (s : Split). is_plain s.query ≡ true) same asks.plain) (subst (λ (s : Split). only_pattern s.parts ≡ Some pattern) same asks.alone)
+
+  -- from what the split gives to what the text gives
+  pub read_of : (result : Result Select Refusal) → SelectsOf result split → ReadsQuery result text
+  read_of (Ok select) h = record {
+    is_query = record { split = split; accepted = accepted; plain = h.0; alone = h.1.0; names_are = h.1.1 };
+    variables = subst AreVariables (sym h.1.1) (answer_variables text split accepted);
+  }
+  read_of (Err refusals.Memory) h = tt
+  read_of (Err (refusals.Query cause)) h =
+      subst (λ c. WhyNoQuery c text) (sym h.0) (record { split = split; accepted = accepted; none = none_else h.1 })
+  read_of (Err refusals.Words) h = absurd h
+  read_of (Err (refusals.File name)) h = absurd h
+  read_of (Err (refusals.Data fault)) h = absurd h
+  read_of (Err refusals.NotAStore) h = absurd h
+  read_of (Err refusals.Output) h = absurd h
+
+-- a cause that is not want of memory is named
+pub why_named : (text : List ℕ) (fault : QueryFault) → fault ≢ faults.Memory → WhyNotPrepared text fault → IsNotPrepared text fault
+why_named text (faults.TooLarge size) named why = why
+why_named text (faults.Lex place) named why = why
+why_named text (faults.Unsupported what) named why = why
+why_named text faults.NotAQuery named why = why
+why_named text (faults.Scope name) named why = why
+why_named text faults.Memory named why = absurd (named refl)
