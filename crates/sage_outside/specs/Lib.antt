@@ -5,9 +5,13 @@ pub mod Shelf
 pub mod Sink
 pub mod Replies
 pub mod Link
+pub mod Responder
 pub mod Conn
 pub mod Door
 pub mod Calls
 pub mod Memory
 pub mod Held
+pub mod Peers
+pub mod DoorState
+pub mod DoorSlots
 pub mod Areas

@@ -57,8 +57,8 @@ CountsScarce (Some before) new (Ok reply) = (now : ℕ) × (new ≡ Some now) ×
 CountsScarce (Some before) new (Err fault) = (now : ℕ) × (new ≡ Some now) × (before ≤ now)
 
 -- after a reply that is no 500 one a telling link tells this request; else nothing is said of it
-abbrev pub Asks : Option (Option (List ℕ)) → Option (Option (List ℕ)) → List ℕ
-    → Result (Vec ℕ Global) LinkFault → Type 0
+abbrev pub Asks : {E : Type 0} → Option (Option (List ℕ)) → Option (Option (List ℕ)) → List ℕ
+    → Result (Vec ℕ Global) E → Type 0
 Asks None new request result = new ≡ None
 Asks (Some old) new request (Ok reply) = IsSome new
     × OnFalse (is_server_error reply.items) (new ≡ Some (Some request))
