@@ -12,6 +12,8 @@ mod number_cases;
 #[cfg(test)]
 mod numbers;
 #[cfg(test)]
+mod peers;
+#[cfg(test)]
 mod reading;
 #[cfg(test)]
 mod rows;
