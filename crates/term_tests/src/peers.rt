@@ -1,5 +1,8 @@
 //! Connections and doors in memory, and the adapters over the listener and the streams of the system.
 
+ghost use Rattle.std.specs.Prelude.{IfOk};
+ghost use Rattle.sage_outside.specs.Peers.{IsNewConn};
+
 use sage_outside::{Conn, Door, Failed, LinkFault, ListenerDoor, MemConn, MemDoor, StreamLink};
 use std::alloc::{AllocError, Global};
 use std::io;
@@ -14,7 +17,9 @@ fn conn_of(
     bytes: &[u8],
     piece: usize,
     fails: &[u64],
-) -> Result<MemConn, AllocError> {
+) -> Result<MemConn, AllocError>
+    ensures { IfOk result (λ conn. IsNewConn conn) }
+{
     let bytes = Vec::from_slice(alloc, bytes)?;
     let fails = Vec::from_slice(alloc, fails)?;
     Ok(MemConn::new(alloc, bytes, piece.max(1), fails))
