@@ -7,12 +7,15 @@ use Rattle.term_core.specs.Mappings.{Name, same_name}
 use Rattle.term_core.proofs.Distinct.{from_In-distinct}
 use Rattle.term_core.proofs.Merges.{names_same, name_itself}
 use Rattle.sparql_tree.specs.Bgp.{is_variable}
-use Rattle.sparql_tree.specs.Groups.{Query, SelectItem}
-use Rattle.sparql_tree.specs.Trees.{IsTree}
+use Rattle.sparql_tree.specs.Queries.{variables as item_names}
 use Rattle.sparql_tree.specs.Translation.{translation}
-use Rattle.sparql_tree.specs.Variables.{in_scope, variables}
+use Rattle.sparql_tree.specs.Variables.{in_scope}
 use Rattle.sparql_tree.specs.declared.fault.QueryFault.{QueryFault}
 use Rattle.sparql_tree.specs.declared.fault.QueryFault.TheVariants as faults
+use Rattle.sparql_print.proofs.ReadQueries.{item-names, scope-names}
+use Rattle.sparql_print.proofs.TranslatedScopes.{group-scope}
+use Rattle.sparql_print.proofs.VariableNames.{spelled-variable}
+use Rattle.sparql_algebra.proofs.Accepting.{one_split}
 use Rattle.plan_tree.specs.Laws.{AreVariables}
 use Rattle.sparql_algebra.specs.Splits.{Split, answered}
 use Rattle.sparql_algebra.specs.Prepared.{Accepted, IsNotPrepared, WhyNotPrepared}
@@ -23,7 +26,23 @@ use Rattle.sage.specs.declared.refusal.QueryRefusal.TheVariants as query_refusal
 use Rattle.sage.specs.declared.select.Select.{Select}
 use Rattle.sage.specs.Answers.{AsksPattern, AsksMore, WhyNoQuery, ReadsQuery, SelectsOf, only_pattern}
 
+-- the names of an answer are among those of the items, or those in scope of the group
+among_these : (b : Bool) (xs ys : List Name) (name : Name) → In (if b then distinct same_name xs else distinct same_name ys) name → In xs name ⊎ In ys name
+among_these true xs ys name i = inl (from_In-distinct same_name names_same name_itself xs name i)
+among_these false xs ys name i = inr (from_In-distinct same_name names_same name_itself ys name i)
+
 module _ (text : List ℕ) (split : Split) (accepted : Accepted text split) where
+  -- each name of the answer is a variable's
+  answer_variables : AreVariables split.answer
+  answer_variables name among =
+      let q = split.query in
+      let tree = accepted.accepted.tree in
+      let here : In (answered q) name = subst (λ names. In names name) (ap (λ (s : Split). s.answer) accepted.is_split) among in
+      elim (among_these q.star (in_scope (translation q)) (item_names q.items) name here) [
+        | inl scope ↦ spelled-variable name (scope-names text q tree name (subst (λ names. In names name) (group-scope q.body) scope))
+        | inr item ↦ spelled-variable name (item-names text q tree name item)
+      ]
+
   -- what else would be accepted is the same
   none_else : ((pattern : Pattern) → is_plain split.query ≡ true → only_pattern split.parts ≡ Some pattern → ⊥) → (names : List Name) (pattern : Pattern) → AsksPattern text names pattern → ⊥
   none_else none names pattern asks =
@@ -34,7 +53,7 @@ module _ (text : List ℕ) (split : Split) (accepted : Accepted text split) wher
   pub read_of : (result : Result Select Refusal) → SelectsOf result split → ReadsQuery result text
   read_of (Ok select) h = record {
     is_query = record { split = split; accepted = accepted; plain = h.0; alone = h.1.0; names_are = h.1.1 };
-    variables = subst AreVariables (sym h.1.1) (answer_variables text split accepted);
+    variables = subst AreVariables (sym h.1.1) answer_variables;
   }
   read_of (Err refusals.Memory) h = tt
   read_of (Err (refusals.Query cause)) h =

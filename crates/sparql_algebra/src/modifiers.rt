@@ -1,18 +1,29 @@
 //! Queries without modifiers.
 
-ghost use Rattle.std.specs.Prelude.{◌≡◌, ◌==◌, length, map};
-ghost use Rattle.sparql_tree.specs.Breaches.{item_values};
+ghost use Rattle.std.specs.Prelude.{◌≡◌, map};
+ghost use Rattle.std.specs.List.{list_all};
 ghost use Rattle.sparql_tree.specs.GroupTrees.{item_of, query_of};
-ghost use Rattle.sparql_algebra.specs.Modifiers.{is_plain as is_plain_query};
+ghost use Rattle.sparql_algebra.specs.Modifiers.{is_alone, is_plain as is_plain_query};
 
 use sparql_tree::{Query, SelectItem};
 
+/// Whether an item is a variable alone.
+#[tactic(auto, unfolding(sparql_tree::specs::GroupTrees::item_of))]
+fn is_variable_alone(item: &SelectItem) -> bool
+    ensures { result ≡ is_alone (item_of item.now) }
+{
+    match item.value {
+        None => true,
+        Some(_) => false,
+    }
+}
+
 /// Whether each item is a variable alone.
 fn are_variables(items: &[SelectItem]) -> bool
-    ensures { result ≡ (length (item_values (map item_of items.now)) == 0) }
+    ensures { result ≡ list_all is_alone (map item_of items.now) }
 {
     for item in items {
-        if item.value.is_some() {
+        if !is_variable_alone(item) {
             return false;
         }
     }
