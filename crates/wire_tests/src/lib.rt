@@ -1,6 +1,10 @@
-//! Requests and replies as JSON, read and written. It has tests alone.
+//! Requests and replies as JSON and over HTTP, read and written. It has tests alone.
 #![tactic(auto)]
 
+#[cfg(test)]
+mod http_cases;
+#[cfg(test)]
+mod http_tests;
 #[cfg(test)]
 mod reply_tests;
 #[cfg(test)]
