@@ -17,7 +17,7 @@ use Rattle.sparql_print.proofs.TranslatedScopes.{group-scope}
 use Rattle.sparql_print.proofs.VariableNames.{spelled-variable}
 use Rattle.sparql_algebra.proofs.Accepting.{one_split}
 use Rattle.plan_tree.specs.Laws.{AreVariables}
-use Rattle.sparql_algebra.specs.Splits.{Split, answered}
+use Rattle.sparql_algebra.specs.Cuts.{Split, answered}
 use Rattle.sparql_algebra.specs.Prepared.{Accepted, IsNotPrepared, WhyNotPrepared}
 use Rattle.sparql_algebra.specs.Modifiers.{is_plain}
 use Rattle.sage.specs.declared.refusal.Refusal.{Refusal}

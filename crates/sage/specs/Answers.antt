@@ -10,7 +10,7 @@ use Rattle.plan_tree.specs.Laws.{AreVariables}
 use Rattle.plan_tree.specs.Pages.{Page, IsRun, walked, rows_in}
 use Rattle.sparql_tree.specs.Algebra.{Algebra, Bgp}
 use Rattle.sparql_tree.specs.declared.fault.QueryFault.TheVariants as query_faults
-use Rattle.sparql_algebra.specs.Splits.{PartOf, Split}
+use Rattle.sparql_algebra.specs.Cuts.{PartOf, Split}
 use Rattle.sparql_algebra.specs.Prepared.{Accepted, IsNotPrepared}
 use Rattle.sparql_algebra.specs.Modifiers.{is_plain}
 use Rattle.pattern_page.specs.Part.{select_all_text, part_plan}
