@@ -233,7 +233,7 @@ fn length_taken(alloc: Global, length: &str, bytes: usize) -> Result<usize, Allo
     let mut conn = conn_of(alloc, request.as_slice(), 100_000, &[])?;
     Ok(match take_request(alloc, &mut conn) {
         Ok(request) => request.body.len(),
-        Err(HttpRefusal::Status { code, .. }) => code.into(),
+        Err(HttpRefusal::Status { code, name: _name }) => code.into(),
         Err(_) => 0,
     })
 }
