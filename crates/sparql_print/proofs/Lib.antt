@@ -13,6 +13,9 @@ pub mod ReadsBack
 pub mod Separate
 pub mod Shown
 pub mod SpelledExprs
+pub mod SpelledNames
 pub mod SpelledTokens
 pub mod TermPieces
 pub mod Texts
+pub mod TranslatedScopes
+pub mod VariableNames
