@@ -1,4 +1,4 @@
+pub mod Measures
+pub mod Within
 pub mod Splits
-pub mod SplitTrees
-pub mod Prepared
 pub mod SplitLaws

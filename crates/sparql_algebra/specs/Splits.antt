@@ -1,17 +1,12 @@
 -- A query's algebra cut into parts, which servers answer page by page, and the tree of the operators that the client computes
 -- from their solutions.
-use Rattle.std.specs.Prelude.{ℕ, zero, suc, ◌+◌, List, [], ◌∷◌, ◌++◌, map, length, if◌then◌else◌, filter, Option}
-use Rattle.term_core.specs.Mappings.{Name, Row, same_name, joins}
-use Rattle.term_core.specs.Bags.{distinct}
+use Rattle.std.specs.Prelude.{ℕ, zero, suc, ◌+◌, List, [], ◌∷◌, ◌++◌, length, if◌then◌else◌, filter, Option}
+use Rattle.term_core.specs.Mappings.{Name, Row, joins}
 use Rattle.sparql_tree.specs.Algebra as algebra
 use Rattle.sparql_tree.specs.Algebra.{Algebra, is_server}
 use Rattle.sparql_tree.specs.Exprs.{Expr}
-use Rattle.sparql_tree.specs.Groups.{Query, SelectItem}
-use Rattle.sparql_tree.specs.Translation.{translation}
-use Rattle.sparql_tree.specs.Variables.{variables}
 use Rattle.sparql_value.specs.Evaluation.{is_true_under}
 use Rattle.sparql_value.specs.Solutions.{left_joins, differences, extensions}
-use Rattle.sparql_print.specs.PartText.{part_text}
 
 -- operators over parts
 pub data Tree : Type 0 where
@@ -57,36 +52,6 @@ tree_from n (algebra.Filter condition inner) = part_or n (algebra.Filter conditi
 tree_from n (algebra.Extend inner variable value) = part_or n (algebra.Extend inner variable value) (Extend (tree_from n inner) variable value)
 tree_from n (algebra.LeftJoin left right condition) = LeftJoin (tree_from n left) (tree_from (behind n left) right) condition
 tree_from n (algebra.Minus left right) = Minus (tree_from n left) (tree_from (behind n left) right)
-
--- a part: its operators, the text in which it travels to a server, and the variables of its solutions
-pub record PartOf : Type 0 where
-  pub operators : Algebra
-  pub text : List ℕ
-  pub names : List Name
-
--- a query, its parts, the tree over them, and the variables of its answer
-pub record Split : Type 0 where
-  pub query : Query
-  pub parts : List PartOf
-  pub tree : Tree
-  pub answer : List Name
-
--- the variables of a query's answer: those of the items, each once, or for `*` those in scope (SPARQL 1.1, 18.2.4.4 and 18.2.5.4)
-abbrev pub answered : Query → List Name
-answered q = if q.star then variables (translation q) else distinct same_name (map (λ (item : SelectItem). item.variable) q.items)
-
--- the part of an operator
-abbrev pub part_of : Algebra → PartOf
-part_of a = record { operators = a; text = part_text a; names = variables a }
-
--- a query as it is cut
-abbrev pub split_of : Query → Split
-split_of q = record {
-  query = q;
-  parts = map part_of (parts_of (translation q));
-  tree = tree_from 0 (translation q);
-  answer = answered q;
-}
 
 -- the solutions of a part, of those of all
 abbrev pub solutions_at : List (List Row) → ℕ → List Row

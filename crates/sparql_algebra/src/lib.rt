@@ -1,10 +1,13 @@
-//! A query's text as algebra, cut into parts that servers answer page by page and the tree that the
-//! client computes from their solutions (SPARQL 1.1, sections 18.2 and 18.6).
+//! A query's group as algebra, what a query measures, and which operators servers evaluate
+//! (SPARQL 1.1, sections 18.2 and 18.6).
 #![tactic(auto)]
 
 pub mod law;
-mod splitting;
-mod tree;
+mod measure;
+mod measuring;
+mod server;
+mod translation;
 
-pub use splitting::{Part, Split};
-pub use tree::Tree;
+pub use measuring::{QuerySize, size_of_query};
+pub use server::is_server;
+pub use translation::translate;
