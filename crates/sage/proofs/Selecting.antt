@@ -19,7 +19,7 @@ use Rattle.sparql_algebra.proofs.Accepting.{one_split}
 use Rattle.plan_tree.specs.Laws.{AreVariables}
 use Rattle.sparql_algebra.specs.Cuts.{Split, answered}
 use Rattle.sparql_algebra.specs.Prepared.{Accepted, IsNotPrepared, WhyNotPrepared}
-use Rattle.sparql_algebra.specs.Modifiers.{is_plain}
+use Rattle.sparql_translation.specs.Modifiers.{is_plain}
 use Rattle.sage.specs.declared.refusal.Refusal.{Refusal}
 use Rattle.sage.specs.declared.refusal.Refusal.TheVariants as refusals
 use Rattle.sage.specs.declared.refusal.QueryRefusal.TheVariants as query_refusals

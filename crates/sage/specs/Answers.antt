@@ -12,7 +12,7 @@ use Rattle.sparql_tree.specs.Algebra.{Algebra, Bgp}
 use Rattle.sparql_tree.specs.declared.fault.QueryFault.TheVariants as query_faults
 use Rattle.sparql_algebra.specs.Cuts.{PartOf, Split}
 use Rattle.sparql_algebra.specs.Prepared.{Accepted, IsNotPrepared}
-use Rattle.sparql_algebra.specs.Modifiers.{is_plain}
+use Rattle.sparql_translation.specs.Modifiers.{is_plain}
 use Rattle.pattern_page.specs.Part.{select_all_text, part_plan}
 use Rattle.pattern_page.specs.Results.{tsv_of, counts_text}
 use Rattle.pattern_page.specs.declared.page.PageFault.{PageFault}

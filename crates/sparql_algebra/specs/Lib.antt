@@ -1,4 +1,0 @@
-pub mod Measures
-pub mod Within
-pub mod Splits
-pub mod SplitLaws
