@@ -1,0 +1,2 @@
+pub mod ServerParts
+pub mod Accepting

@@ -1,0 +1,3 @@
+pub mod Cuts
+pub mod SplitTrees
+pub mod Prepared
