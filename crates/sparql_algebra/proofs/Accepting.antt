@@ -1,6 +1,5 @@
 -- A text is accepted as at most one split, or refused for one cause, and never both.
 use Rattle.std.proofs.Common.{◌≡◌, ◌⊎◌, inl, inr, ◌<◌, ◌≤◌, ℕ, Bool, true, false, nat_lt, List, [], ◌∷◌, length, refl, sym, ap, subst, ◌∙◌, arith}
-use Rattle.std.specs.Prelude.{if◌then◌else◌}
 use Rattle.std.proofs.lemmas.Bool.{cases_lt}
 use Rattle.std.proofs.lemmas.Bool.Decides.{nat_tests}
 use Rattle.term_core.specs.Bags.{In}
@@ -13,7 +12,7 @@ use Rattle.sparql_tree.specs.declared.fault.Size.TheVariants as sizes
 use Rattle.sparql_read.proofs.Laws.{not-both-answers, some-answer, one-refusal}
 use Rattle.sparql_read.proofs.Refused as read
 use Rattle.sparql_algebra.specs.Cuts.{PartOf, Split, split_of}
-use Rattle.sparql_algebra.specs.Prepared.{IsTooLarge, PartsFit, IsCutOf, Accepted, IsNotCut, IsOfUncut, IsNotPrepared}
+use Rattle.sparql_algebra.specs.Prepared.{IsTooLarge, PartsFit, IsCutOf, Accepted, IsNotCut, IsNotPrepared}
 
 -- ---- at most one
 
@@ -79,7 +78,7 @@ not_both text split fault h (inr uncut) =
 -- ---- always one
 
 -- a text of symbols, or one that is refused before the grammar for another cause, is not too large
-not_large : (text : List ℕ) (fault : QueryFault) → length text ≤ 262144 → HasNoSymbols text fault → (fault ≡ faults.TooLarge sizes.Nesting → ⊥) → IsTooLarge text → ⊥
+pub not_large : (text : List ℕ) (fault : QueryFault) → length text ≤ 262144 → HasNoSymbols text fault → (fault ≡ faults.TooLarge sizes.Nesting → ⊥) → IsTooLarge text → ⊥
 not_large text fault short none other (inl long) = omega (arith, short, long)
 not_large text fault short none other (inr deep) = other (one-refusal text fault (faults.TooLarge sizes.Nesting) none deep)
 
@@ -113,7 +112,7 @@ some_large [] = inr (λ part among large. among)
 some_large (first ∷ rest) = elim (large_or_not first.text) [
   | inl large ↦ inl (first, inl refl, large)
   | inr small ↦ elim (some_large rest) [
-    | inl more ↦ inl (more.0, inr more.1.0, more.1.1)
+    | inl more ↦ inl (more.0, inr more.1, more.2)
     | inr fit ↦ inr (λ part among large. elim among [
       | inl is ↦ small (subst (λ (p : PartOf). IsTooLarge p.text) (sym is) large)
       | inr behind ↦ fit part behind large
@@ -128,7 +127,7 @@ cut_or_not q = elim (cases_lt 100 (query_depth q)) [
   | inr shallow ↦ elim (cases_lt 4000 (query_weight q)) [
     | inl heavy ↦ inr (faults.TooLarge sizes.Weight, record { shallow = shallow; heavy = heavy })
     | inr light ↦ elim (some_large (split_of q).parts) [
-      | inl large ↦ inr (faults.TooLarge sizes.Part, record { modest = record { shallow = shallow; light = light }; part = record { part = large.0; among = large.1.0; large = large.1.1 } })
+      | inl large ↦ inr (faults.TooLarge sizes.Part, record { modest = record { shallow = shallow; light = light }; part = record { part = large.0; among = large.1; large = large.2 } })
       | inr fit ↦ inl (record { modest = record { shallow = shallow; light = light }; is_split = refl; fit = fit })
     ]
   ]

@@ -1,2 +1,3 @@
 pub mod ServerParts
 pub mod Accepting
+pub mod PartTexts

@@ -1,5 +1,5 @@
 -- Which text is accepted, as which split, and which is refused, and why (SPARQL 1.1, 19.8 and 18.2; the limits are this program's own).
-use Rattle.std.specs.Prelude.{◌≡◌, ◌<◌, ◌≤◌, ℕ, Bool, true, false, List, length, ◌⊎◌}
+use Rattle.std.specs.Prelude.{◌≡◌, ◌<◌, ◌≤◌, ℕ, Bool, true, false, Option, Some, None, List, length, ◌⊎◌}
 use Rattle.term_core.specs.Bags.{In}
 use Rattle.sparql_tree.specs.Accepted.{IsAccepted, IsRefused}
 use Rattle.sparql_tree.specs.Groups.{Query}
@@ -18,6 +18,12 @@ IsTooLarge text = (262144 < length text) ⊎ IsTooDeep text
 abbrev pub TellsLarge : List ℕ → Bool → Type 0
 TellsLarge text true = IsTooLarge text
 TellsLarge text false = IsTooLarge text → ⊥
+
+-- whether a refusal of a text is of its size: nothing is told where memory was wanting
+abbrev pub is_size : QueryFault → Option Bool
+is_size (faults.TooLarge size) = Some true
+is_size faults.Memory = None
+is_size fault = Some false
 
 -- the text of each part can be read
 abbrev pub PartsFit : List PartOf → Type 0

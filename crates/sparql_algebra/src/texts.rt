@@ -1,8 +1,8 @@
 //! The texts of parts, within the limits of texts that are read.
 
-ghost use Rattle.std.specs.Prelude.{IfOk, IfErr, map, true};
-ghost use Rattle.sparql_tree.specs.Refusals.{IsTooDeep};
-ghost use Rattle.sparql_algebra.specs.Prepared.{PartsFit, WhyNoPart, TellsLarge};
+ghost use Rattle.std.specs.Prelude.{◌≡◌, IfOk, IfErr, map};
+ghost use Rattle.std.specs.Result.{result_ok};
+ghost use Rattle.sparql_algebra.specs.Prepared.{PartsFit, WhyNoPart, TellsLarge, is_size};
 ghost use Rattle.sparql_algebra.specs.SplitTrees.{pure_part};
 
 use crate::Part;
@@ -11,6 +11,17 @@ use sparql_tree::{QueryFault, Size};
 use std::alloc::Global;
 use term_core::{Memory, Text};
 
+/// Whether a refusal is of a size; none where memory was wanting.
+fn is_of_size(fault: QueryFault) -> Result<bool, Memory>
+    ensures { result_ok result ≡ is_size fault }
+{
+    match fault {
+        QueryFault::TooLarge(_) => Ok(true),
+        QueryFault::Memory => Err(Memory),
+        _ => Ok(false),
+    }
+}
+
 /// Whether no server reads the text: it has more than 262,144 bytes, or more than 256 groups are open at
 /// one place in it.
 fn is_too_large(alloc: Global, text: &Text) -> Result<bool, Memory>
@@ -18,9 +29,7 @@ fn is_too_large(alloc: Global, text: &Text) -> Result<bool, Memory>
 {
     match symbols(alloc, text.bytes()) {
         Ok(_) => Ok(false),
-        Err(QueryFault::Memory) => Err(Memory),
-        Err(QueryFault::TooLarge(_)) => Ok(true),
-        Err(_) => Ok(false),
+        Err(fault) => is_of_size(fault),
     }
 }
 
