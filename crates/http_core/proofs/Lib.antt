@@ -1,3 +1,6 @@
 pub mod Fronts
 pub mod Numbers
 pub mod Outcomes
+pub mod Decimals
+pub mod Reasons
+pub mod WrittenReplies

@@ -3,6 +3,7 @@
 
 mod checks;
 mod fields;
+pub mod law;
 mod lengths;
 mod reply;
 mod request;
