@@ -12,12 +12,7 @@ use std::test::Fail;
 use std::time::Clock;
 
 /// A connection with these bytes to come, whose calls of these numbers are to fail.
-fn conn_of(
-    alloc: Global,
-    bytes: &[u8],
-    piece: usize,
-    fails: &[u64],
-) -> Result<MemConn, AllocError>
+fn conn_of(alloc: Global, bytes: &[u8], piece: usize, fails: &[u64]) -> Result<MemConn, AllocError>
     ensures { IfOk result (λ conn. IsNewConn conn) }
 {
     let bytes = Vec::from_slice(alloc, bytes)?;
