@@ -17,6 +17,7 @@ use Rattle.sparql_tree.specs.declared.fault.QueryFault.TheVariants as faults
 use Rattle.sparql_tree.specs.declared.fault.Size.TheVariants as sizes
 use Rattle.sparql_algebra.specs.Cuts.{Split}
 use Rattle.sparql_algebra.specs.Prepared.{Accepted, IsOfUncut}
+use Rattle.sparql_algebra.proofs.Accepting.{not_both}
 use Rattle.sage.specs.declared.refusal.QueryRefusal.{QueryRefusal}
 use Rattle.sage.specs.declared.refusal.QueryRefusal.TheVariants as query_refusals
 use Rattle.sage.specs.Answers.{Answers, AsksPattern, NoQuery, WhyNoQuery}

@@ -10,15 +10,13 @@ use Rattle.sparql_tree.specs.Bgp.{is_variable}
 use Rattle.sparql_tree.specs.Queries.{variables as item_names}
 use Rattle.sparql_tree.specs.Translation.{translation}
 use Rattle.sparql_tree.specs.Variables.{in_scope}
-use Rattle.sparql_tree.specs.declared.fault.QueryFault.{QueryFault}
-use Rattle.sparql_tree.specs.declared.fault.QueryFault.TheVariants as faults
 use Rattle.sparql_print.proofs.ReadQueries.{item-names, scope-names}
 use Rattle.sparql_print.proofs.TranslatedScopes.{group-scope}
 use Rattle.sparql_print.proofs.VariableNames.{spelled-variable}
 use Rattle.sparql_algebra.proofs.Accepting.{one_split}
 use Rattle.plan_tree.specs.Laws.{AreVariables}
 use Rattle.sparql_algebra.specs.Cuts.{Split, answered}
-use Rattle.sparql_algebra.specs.Prepared.{Accepted, IsNotPrepared, WhyNotPrepared}
+use Rattle.sparql_algebra.specs.Prepared.{Accepted}
 use Rattle.sparql_translation.specs.Modifiers.{is_plain}
 use Rattle.sage.specs.declared.refusal.Refusal.{Refusal}
 use Rattle.sage.specs.declared.refusal.Refusal.TheVariants as refusals
@@ -63,12 +61,3 @@ module _ (text : List ℕ) (split : Split) (accepted : Accepted text split) wher
   read_of (Err (refusals.Data fault)) h = absurd h
   read_of (Err refusals.NotAStore) h = absurd h
   read_of (Err refusals.Output) h = absurd h
-
--- a cause that is not want of memory is named
-pub why_named : (text : List ℕ) (fault : QueryFault) → fault ≢ faults.Memory → WhyNotPrepared text fault → IsNotPrepared text fault
-why_named text (faults.TooLarge size) named why = why
-why_named text (faults.Lex place) named why = why
-why_named text (faults.Unsupported what) named why = why
-why_named text faults.NotAQuery named why = why
-why_named text (faults.Scope name) named why = why
-why_named text faults.Memory named why = absurd (named refl)

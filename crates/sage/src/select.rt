@@ -1,5 +1,5 @@
 // The query that a text is of, as far as queries are answered.
-ghost use Rattle.std.specs.Prelude.{◌≡◌, map};
+ghost use Rattle.std.specs.Prelude.{◌≡◌, map, IfOk};
 ghost use Rattle.std.specs.Option.{option_copied};
 ghost use Rattle.sparql_tree.specs.AlgebraTrees.{algebra_of};
 ghost use Rattle.sparql_algebra.specs.SplitTrees.{pure_part, pure_split};
@@ -9,7 +9,7 @@ use crate::refusal::{QueryRefusal, Refusal};
 use sparql_algebra::{Part, Split, is_plain, prepare};
 use sparql_tree::{Algebra, QueryFault};
 use std::alloc::Global;
-use term_core::{Items, Pattern, Text};
+use term_core::{Items, Memory, Pattern, Text};
 
 /// A query that asks for the solutions of one triple pattern.
 #[derive(Drop)]
@@ -42,9 +42,20 @@ fn only_pattern(parts: &[Part]) -> Option<&Pattern>
     }
 }
 
+/// A copy of the names and of the pattern.
+fn selected(alloc: Global, names: &Items<Text>, pattern: &Pattern) -> Result<Select, Memory>
+    ensures { IfOk result (λ select. (select.names ≡ names.now) × (select.pattern ≡ pattern.now)) }
+{
+    let pattern = pattern.copy(alloc)?;
+    Ok(Select {
+        names: names.copy(alloc)?,
+        pattern,
+    })
+}
+
 /// The names and the pattern of an accepted query, if it asks for no more.
-fn select_of(alloc: Global, split: Split) -> Result<Select, Refusal>
-    ensures { SelectsOf result (pure_split split) }
+fn select_of(alloc: Global, split: &Split) -> Result<Select, Refusal>
+    ensures { SelectsOf result (pure_split split.now) }
 {
     if !is_plain(&split.query) {
         return Err(Refusal::Query {
@@ -52,11 +63,8 @@ fn select_of(alloc: Global, split: Split) -> Result<Select, Refusal>
         });
     }
     match only_pattern(split.parts.as_slice()) {
-        Some(pattern) => match pattern.copy(alloc) {
-            Ok(pattern) => Ok(Select {
-                names: split.variables,
-                pattern,
-            }),
+        Some(pattern) => match selected(alloc, &split.variables, pattern) {
+            Ok(select) => Ok(select),
             Err(_) => Err(Refusal::Memory),
         },
         None => Err(Refusal::Query {
@@ -71,7 +79,7 @@ pub(crate) fn read_select(alloc: Global, query: &[u8]) -> Result<Select, Refusal
     ensures { ReadsQuery result query.now }
 {
     match prepare(alloc, query) {
-        Ok(split) => select_of(alloc, split),
+        Ok(split) => select_of(alloc, &split),
         Err(QueryFault::Memory) => Err(Refusal::Memory),
         Err(fault) => Err(Refusal::Query {
             cause: QueryRefusal::Fault(fault),

@@ -65,7 +65,7 @@ fit_more f xs i x next fit small = subst (λ ys. PartsFit (map f ys)) next both
     both part among large = elim (In-append_cases (map f (take i xs)) (f x ∷ []) part (subst (λ ps. In ps part) (map-append f (take i xs) (x ∷ [])) among)) [
       | inl front ↦ fit part front large
       | inr last ↦ elim last [
-          | inl is ↦ small (subst (λ (p : PartOf). IsTooLarge p.text) (sym is) large)
-          | inr none ↦ absurd none
-        ]
+        | inl is ↦ small (subst (λ (p : PartOf). IsTooLarge p.text) (sym is) large)
+        | inr none ↦ absurd none
+      ]
     ]

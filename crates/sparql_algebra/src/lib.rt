@@ -5,10 +5,12 @@
 
 mod cutting;
 pub mod law;
+mod preparing;
 mod splitting;
 mod texts;
 mod tree;
 
+pub use preparing::{prepare, split};
 pub use sparql_translation::{is_plain, is_server, translate};
-pub use splitting::{Part, Split, prepare, split};
+pub use splitting::{Part, Split};
 pub use tree::Tree;
