@@ -1,12 +1,11 @@
 -- What a text that is accepted, or refused, says of the query that is answered.
-use Rattle.std.proofs.Common.{◌≡◌, ◌≢◌, ◌⊎◌, ℕ, List, map, Some, Ok, Err, Result, Bool, true, false, sym, subst, ap, ◌∙◌, inl, inr, refl}
+use Rattle.std.proofs.Common.{◌≡◌, ◌⊎◌, ℕ, List, Some, Ok, Err, Result, Bool, true, false, sym, subst, ap, inl, inr}
 use Rattle.std.specs.Prelude.{if◌then◌else◌}
 use Rattle.term_core.specs.declared.pattern.Pattern.{Pattern}
 use Rattle.term_core.specs.Bags.{In, distinct}
 use Rattle.term_core.specs.Mappings.{Name, same_name}
 use Rattle.term_core.proofs.Distinct.{from_In-distinct}
 use Rattle.term_core.proofs.Merges.{names_same, name_itself}
-use Rattle.sparql_tree.specs.Bgp.{is_variable}
 use Rattle.sparql_tree.specs.Queries.{variables as item_names}
 use Rattle.sparql_tree.specs.Translation.{translation}
 use Rattle.sparql_tree.specs.Variables.{in_scope}
@@ -20,9 +19,8 @@ use Rattle.sparql_algebra.specs.Prepared.{Accepted}
 use Rattle.sparql_translation.specs.Modifiers.{is_plain}
 use Rattle.sage.specs.declared.refusal.Refusal.{Refusal}
 use Rattle.sage.specs.declared.refusal.Refusal.TheVariants as refusals
-use Rattle.sage.specs.declared.refusal.QueryRefusal.TheVariants as query_refusals
 use Rattle.sage.specs.declared.select.Select.{Select}
-use Rattle.sage.specs.Answers.{AsksPattern, AsksMore, WhyNoQuery, ReadsQuery, SelectsOf, only_pattern}
+use Rattle.sage.specs.Answers.{AsksPattern, WhyNoQuery, ReadsQuery, SelectsOf, only_pattern}
 
 -- the names of an answer are among those of the items, or those in scope of the group
 among_these : (b : Bool) (xs ys : List Name) (name : Name) → In (if b then distinct same_name xs else distinct same_name ys) name → In xs name ⊎ In ys name
@@ -35,7 +33,7 @@ module _ (text : List ℕ) (split : Split) (accepted : Accepted text split) wher
   answer_variables name among =
       let q = split.query in
       let tree = accepted.accepted.tree in
-      let here : In (answered q) name = subst (λ names. In names name) (ap (λ (s : Split). s.answer) accepted.is_split) among in
+      let here : In (answered q) name = subst (λ names. In names name) (ap (λ (s : Split). s.answer) accepted.cut.is_split) among in
       elim (among_these q.star (in_scope (translation q)) (item_names q.items) name here) [
         | inl scope ↦ spelled-variable name (scope-names text q tree name (subst (λ names. In names name) (group-scope q.body) scope))
         | inr item ↦ spelled-variable name (item-names text q tree name item)
@@ -50,8 +48,8 @@ module _ (text : List ℕ) (split : Split) (accepted : Accepted text split) wher
   -- from what the split gives to what the text gives
   pub read_of : (result : Result Select Refusal) → SelectsOf result split → ReadsQuery result text
   read_of (Ok select) h = record {
-    is_query = record { split = split; accepted = accepted; plain = h.0; alone = h.1.0; names_are = h.1.1 };
-    variables = subst AreVariables (sym h.1.1) answer_variables;
+    is_query = record { split = split; accepted = accepted; plain = h.0; alone = h.1; names_are = h.2 };
+    variables = subst AreVariables (sym h.2) answer_variables;
   }
   read_of (Err refusals.Memory) h = tt
   read_of (Err (refusals.Query cause)) h =

@@ -14,10 +14,6 @@ pub returns-in-Err-NotAStore : goal.returns-in-Err-NotAStore
 returns-in-Err-NotAStore g c =
     ended_so _ _ _ _ _ _ (c.in-Err-NotAStore.is ∙ ap Err c.in-Err-NotAStore.field-0-is) c.tell-in-Err-NotAStore.ensures.status refl c.tell-in-Err-NotAStore.ensures.told
 
-pub returns-in-Err-Query : goal.returns-in-Err-Query
-returns-in-Err-Query g c =
-    ended_so _ _ _ _ _ _ (c.in-Err-Query.is ∙ ap Err c.in-Err-Query.field-0-is) c.tell-in-Err-Query.ensures.status refl c.tell-in-Err-Query.ensures.told
-
 pub returns : goal.returns
 returns g c =
     ended_so _ _ _ _ _ _ (c.in-Err-Output.is ∙ ap Err c.in-Err-Output.field-0-is) c.tell-in-Err-Output.ensures.status refl c.tell-in-Err-Output.ensures.told
