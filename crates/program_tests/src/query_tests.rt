@@ -114,14 +114,35 @@ const REFUSED: [(&[u8], &str); 42] = [
     (b"\xff", "sage: query lex 0\n"),
     (b"SELECT * { ?s ?p \"\xc3\" }", "sage: query lex 18\n"),
     (b"ASK { ?s ?p ?o }", "sage: query unsupported ASK\n"),
-    (b"construct { ?s ?p ?o } where {}", "sage: query unsupported construct\n"),
-    (b"SELECT ?x { ?x <http://e/p> 1e0 }", "sage: query unsupported 1e0\n"),
-    (b"SELECT * { GRAPH ?g { ?s ?p 1E0 } }", "sage: query unsupported GRAPH\n"),
-    (b"SELECT ?x { ?x <http://e/p> ?y BIND(1 AS ?y) }", "sage: query scope ?y\n"),
+    (
+        b"construct { ?s ?p ?o } where {}",
+        "sage: query unsupported construct\n",
+    ),
+    (
+        b"SELECT ?x { ?x <http://e/p> 1e0 }",
+        "sage: query unsupported 1e0\n",
+    ),
+    (
+        b"SELECT * { GRAPH ?g { ?s ?p 1E0 } }",
+        "sage: query unsupported GRAPH\n",
+    ),
+    (
+        b"SELECT ?x { ?x <http://e/p> ?y BIND(1 AS ?y) }",
+        "sage: query scope ?y\n",
+    ),
     (b"SELECT (1 AS ?y) { ?x ?p ?y }", "sage: query scope ?y\n"),
-    (b"SELECT * { _:a ?p ?o OPTIONAL { _:a ?p ?q } }", "sage: query scope _:a\n"),
-    (b"SELECT * { ?x ?p ?y } GROUP BY ?x", "sage: query scope *\n"),
-    (b"SELECT ?y { ?x ?p ?y } GROUP BY ?x", "sage: query scope ?y\n"),
+    (
+        b"SELECT * { _:a ?p ?o OPTIONAL { _:a ?p ?q } }",
+        "sage: query scope _:a\n",
+    ),
+    (
+        b"SELECT * { ?x ?p ?y } GROUP BY ?x",
+        "sage: query scope *\n",
+    ),
+    (
+        b"SELECT ?y { ?x ?p ?y } GROUP BY ?x",
+        "sage: query scope ?y\n",
+    ),
 ];
 
 /// Texts of pieces, each so many times, that pass a limit or are at it, and what is told.
@@ -143,39 +164,93 @@ const LARGE: [([(&str, usize); 5], &str); 13] = [
         "sage: query form\n",
     ),
     (
-        [("SELECT *{", 1), ("?s ?p ?o .", 100), ("}", 1), ("", 0), ("", 0)],
+        [
+            ("SELECT *{", 1),
+            ("?s ?p ?o .", 100),
+            ("}", 1),
+            ("", 0),
+            ("", 0),
+        ],
         "sage: query too large depth\n",
     ),
     (
-        [("SELECT *{", 1), ("?s ?p ?o .", 99), ("}", 1), ("", 0), ("", 0)],
+        [
+            ("SELECT *{", 1),
+            ("?s ?p ?o .", 99),
+            ("}", 1),
+            ("", 0),
+            ("", 0),
+        ],
         "sage: query form\n",
     ),
     (
-        [("SELECT *{", 1), ("MINUS{}", 37_447), ("}", 1), ("", 0), ("", 0)],
+        [
+            ("SELECT *{", 1),
+            ("MINUS{}", 37_447),
+            ("}", 1),
+            ("", 0),
+            ("", 0),
+        ],
         "sage: query too large depth\n",
     ),
     (
-        [("SELECT *{", 1), ("{}UNION", 37_447), ("{}}", 1), ("", 0), ("", 0)],
+        [
+            ("SELECT *{", 1),
+            ("{}UNION", 37_447),
+            ("{}}", 1),
+            ("", 0),
+            ("", 0),
+        ],
         "sage: query too large depth\n",
     ),
     (
-        [("SELECT *{FILTER", 1), ("(!", 99), ("(?a", 1), (")", 100), ("}", 1)],
+        [
+            ("SELECT *{FILTER", 1),
+            ("(!", 99),
+            ("(?a", 1),
+            (")", 100),
+            ("}", 1),
+        ],
         "sage: query form\n",
     ),
     (
-        [("SELECT *{FILTER", 1), ("(!", 100), ("(?a", 1), (")", 101), ("}", 1)],
+        [
+            ("SELECT *{FILTER", 1),
+            ("(!", 100),
+            ("(?a", 1),
+            (")", 101),
+            ("}", 1),
+        ],
         "sage: query too large depth\n",
     ),
     (
-        [("SELECT *{VALUES ?v{", 1), ("1 ", 2_000), ("}}", 1), ("", 0), ("", 0)],
+        [
+            ("SELECT *{VALUES ?v{", 1),
+            ("1 ", 2_000),
+            ("}}", 1),
+            ("", 0),
+            ("", 0),
+        ],
         "sage: query too large weight\n",
     ),
     (
-        [("SELECT *{VALUES ?v{", 1), ("1 ", 1_999), ("}}", 1), ("", 0), ("", 0)],
+        [
+            ("SELECT *{VALUES ?v{", 1),
+            ("1 ", 1_999),
+            ("}}", 1),
+            ("", 0),
+            ("", 0),
+        ],
         "sage: query form\n",
     ),
     (
-        [("PREFIX p:<a:", 1), ("x", 300), ("> SELECT *{VALUES ?v{", 1), ("p:a ", 1_000), ("}}", 1)],
+        [
+            ("PREFIX p:<a:", 1),
+            ("x", 300),
+            ("> SELECT *{VALUES ?v{", 1),
+            ("p:a ", 1_000),
+            ("}}", 1),
+        ],
         "sage: query too large part\n",
     ),
 ];
