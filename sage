@@ -11,7 +11,7 @@ newer_sources() {
 }
 
 if [ ! -x "$program" ] || [ -n "$(newer_sources)" ]; then
-    echo 'sage: building; the first build proves all that it stands on, which takes 10 to 25 minutes' >&2
+    echo 'sage: building; the first build proves all that it stands on, which takes 30 to 50 minutes of a processor' >&2
     (cd "$root/crates/sage_main" && rt run -- --version) >&2 || exit 1
     touch "$program"
 fi
