@@ -1,6 +1,6 @@
 //! Queries, and what they mean as algebra (SPARQL 1.1, section 18.2.2), worked by hand.
 
-use crate::showing::show_algebra;
+use crate::showing::algebra_text;
 use sparql_algebra::translate;
 use sparql_read::read_query;
 use std::alloc::Global;
@@ -179,12 +179,10 @@ const QUERIES: [(&[u8], &str); 50] = [
 
 /// The algebra of a query's text, or what kept it from being read.
 fn shown(alloc: Global, text: &[u8]) -> Result<String, Fail> {
-    let mut out = String::new(alloc);
     match read_query(alloc, text) {
-        Ok(query) => show_algebra(alloc, &mut out, &translate(alloc, &query)?)?,
-        Err(fault) => out.push_str(format!(in alloc; "{fault:?}")?.as_str())?,
+        Ok(query) => algebra_text(alloc, &translate(alloc, &query)?),
+        Err(fault) => Ok(format!(in alloc; "{fault:?}")?),
     }
-    Ok(out)
 }
 
 #[test]

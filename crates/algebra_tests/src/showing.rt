@@ -51,145 +51,134 @@ fn show_names(out: &mut String, names: &[Text]) -> Result<(), Fail> {
     Ok(())
 }
 
-fn show_expr(alloc: Global, out: &mut String, value: &Expr) -> Result<(), Fail> {
-    out.push_str(print_expr(alloc, value)?.as_str())?;
-    Ok(())
-}
-
-fn show_condition(alloc: Global, out: &mut String, condition: &Option<Expr>) -> Result<(), Fail> {
-    match condition {
-        None => Ok(()),
-        Some(value) => {
-            out.push_str(", ")?;
-            show_expr(alloc, out, value)
-        }
-    }
-}
-
-/// `, ?name, E)`
-fn show_value(alloc: Global, out: &mut String, name: &Text, value: &Expr) -> Result<(), Fail> {
-    out.push_str(", ?")?;
-    out.push_str(name.as_str())?;
-    out.push_str(", ")?;
-    show_expr(alloc, out, value)?;
-    out.push(')')?;
-    Ok(())
-}
-
-fn show_table(alloc: Global, out: &mut String, names: &[Text], rows: usize) -> Result<(), Fail> {
-    out.push_str("Table(")?;
-    show_names(out, names)?;
-    out.push_str(format!(in alloc; "; {rows})")?.as_str())?;
-    Ok(())
-}
-
-#[cycle(algebra)]
-fn show_pair(
+/// `NAME(A, B)`, or `NAME(A, B, E)` with a condition.
+fn operator_text(
     alloc: Global,
-    out: &mut String,
-    head: &str,
-    left: &Algebra,
-    right: &Algebra,
-) -> Result<(), Fail> {
-    out.push_str(head)?;
-    show_algebra(alloc, out, left)?;
-    out.push_str(", ")?;
-    show_algebra(alloc, out, right)
+    name: &str,
+    left: &str,
+    right: &str,
+    condition: Option<&Expr>,
+) -> Result<String, Fail> {
+    let Some(condition) = condition else {
+        return Ok(format!(in alloc; "{name}({left}, {right})")?);
+    };
+    let text = print_expr(alloc, condition)?;
+    let condition = text.as_str();
+    Ok(format!(in alloc; "{name}({left}, {right}, {condition})")?)
+}
+
+fn filter_text(alloc: Global, condition: &Expr, inner: &str) -> Result<String, Fail> {
+    let text = print_expr(alloc, condition)?;
+    let condition = text.as_str();
+    Ok(format!(in alloc; "Filter({condition}, {inner})")?)
+}
+
+fn extend_text(alloc: Global, inner: &str, name: &Text, value: &Expr) -> Result<String, Fail> {
+    let name = name.as_str();
+    let text = print_expr(alloc, value)?;
+    let value = text.as_str();
+    Ok(format!(in alloc; "Extend({inner}, ?{name}, {value})")?)
+}
+
+fn table_text(alloc: Global, variables: &[Text], rows: usize) -> Result<String, Fail> {
+    let mut names = String::new(alloc);
+    show_names(&mut names, variables)?;
+    Ok(format!(in alloc; "Table({names}; {rows})")?)
+}
+
+fn bgp_text(alloc: Global, patterns: &[Pattern]) -> Result<String, Fail> {
+    let mut shown = String::new(alloc);
+    show_patterns(alloc, &mut shown, patterns)?;
+    Ok(format!(in alloc; "Bgp({shown})")?)
 }
 
 /// `Join(A, B)`, `Filter(E, A)` and so on.
-#[cycle(algebra)]
-pub fn show_algebra(alloc: Global, out: &mut String, a: &Algebra) -> Result<(), Fail> {
+pub fn algebra_text(alloc: Global, a: &Algebra) -> Result<String, Fail> {
     match a {
-        Algebra::Bgp(patterns) => {
-            out.push_str("Bgp(")?;
-            show_patterns(alloc, out, patterns.as_slice())?;
+        Algebra::Bgp(patterns) => bgp_text(alloc, patterns.as_slice()),
+        Algebra::Join(left, right) => {
+            let left = algebra_text(alloc, left)?;
+            let right = algebra_text(alloc, right)?;
+            operator_text(alloc, "Join", left.as_str(), right.as_str(), None)
         }
-        Algebra::Join(left, right) => show_pair(alloc, out, "Join(", left, right)?,
         Algebra::LeftJoin {
             left,
             right,
             condition,
         } => {
-            show_pair(alloc, out, "LeftJoin(", left, right)?;
-            show_condition(alloc, out, condition)?;
+            let left = algebra_text(alloc, left)?;
+            let right = algebra_text(alloc, right)?;
+            let condition = condition.as_ref();
+            operator_text(alloc, "LeftJoin", left.as_str(), right.as_str(), condition)
         }
-        Algebra::Minus(left, right) => show_pair(alloc, out, "Minus(", left, right)?,
-        Algebra::Union(left, right) => show_pair(alloc, out, "Union(", left, right)?,
+        Algebra::Minus(left, right) => {
+            let left = algebra_text(alloc, left)?;
+            let right = algebra_text(alloc, right)?;
+            operator_text(alloc, "Minus", left.as_str(), right.as_str(), None)
+        }
+        Algebra::Union(left, right) => {
+            let left = algebra_text(alloc, left)?;
+            let right = algebra_text(alloc, right)?;
+            operator_text(alloc, "Union", left.as_str(), right.as_str(), None)
+        }
         Algebra::Filter { condition, inner } => {
-            out.push_str("Filter(")?;
-            show_expr(alloc, out, condition)?;
-            out.push_str(", ")?;
-            show_algebra(alloc, out, inner)?;
+            let inner = algebra_text(alloc, inner)?;
+            filter_text(alloc, condition, inner.as_str())
         }
         Algebra::Extend {
             inner,
             variable,
             value,
         } => {
-            out.push_str("Extend(")?;
-            show_algebra(alloc, out, inner)?;
-            return show_value(alloc, out, variable, value);
+            let inner = algebra_text(alloc, inner)?;
+            extend_text(alloc, inner.as_str(), variable, value)
         }
-        Algebra::Table { variables, rows } => {
-            return show_table(alloc, out, variables.as_slice(), rows.len());
-        }
+        Algebra::Table { variables, rows } => table_text(alloc, variables.as_slice(), rows.len()),
     }
-    out.push(')')?;
-    Ok(())
 }
 
-#[cycle(tree)]
-fn show_trees(
-    alloc: Global,
-    out: &mut String,
-    head: &str,
-    left: &Tree,
-    right: &Tree,
-) -> Result<(), Fail> {
-    out.push_str(head)?;
-    show_tree(alloc, out, left)?;
-    out.push_str(", ")?;
-    show_tree(alloc, out, right)
-}
-
-/// As `show_algebra`, with the numbers of parts.
-#[cycle(tree)]
-fn show_tree(alloc: Global, out: &mut String, tree: &Tree) -> Result<(), Fail> {
+/// As `algebra_text`, with the numbers of parts.
+fn tree_text(alloc: Global, tree: &Tree) -> Result<String, Fail> {
     match tree {
-        Tree::Part(number) => {
-            out.push_str(format!(in alloc; "{number}")?.as_str())?;
-            return Ok(());
+        Tree::Part(number) => Ok(format!(in alloc; "{number}")?),
+        Tree::Join(left, right) => {
+            let left = tree_text(alloc, left)?;
+            let right = tree_text(alloc, right)?;
+            operator_text(alloc, "Join", left.as_str(), right.as_str(), None)
         }
-        Tree::Join(left, right) => show_trees(alloc, out, "Join(", left, right)?,
         Tree::LeftJoin {
             left,
             right,
             condition,
         } => {
-            show_trees(alloc, out, "LeftJoin(", left, right)?;
-            show_condition(alloc, out, condition)?;
+            let left = tree_text(alloc, left)?;
+            let right = tree_text(alloc, right)?;
+            let condition = condition.as_ref();
+            operator_text(alloc, "LeftJoin", left.as_str(), right.as_str(), condition)
         }
-        Tree::Minus(left, right) => show_trees(alloc, out, "Minus(", left, right)?,
-        Tree::Union(left, right) => show_trees(alloc, out, "Union(", left, right)?,
+        Tree::Minus(left, right) => {
+            let left = tree_text(alloc, left)?;
+            let right = tree_text(alloc, right)?;
+            operator_text(alloc, "Minus", left.as_str(), right.as_str(), None)
+        }
+        Tree::Union(left, right) => {
+            let left = tree_text(alloc, left)?;
+            let right = tree_text(alloc, right)?;
+            operator_text(alloc, "Union", left.as_str(), right.as_str(), None)
+        }
         Tree::Filter { condition, inner } => {
-            out.push_str("Filter(")?;
-            show_expr(alloc, out, condition)?;
-            out.push_str(", ")?;
-            show_tree(alloc, out, inner)?;
+            let inner = tree_text(alloc, inner)?;
+            filter_text(alloc, condition, inner.as_str())
         }
         Tree::Extend {
             inner,
             variable,
             value,
         } => {
-            out.push_str("Extend(")?;
-            show_tree(alloc, out, inner)?;
-            return show_value(alloc, out, variable, value);
+            let inner = tree_text(alloc, inner)?;
+            extend_text(alloc, inner.as_str(), variable, value)
         }
     }
-    out.push(')')?;
-    Ok(())
 }
 
 /// ` | TEXT [?name ..]`
@@ -203,11 +192,12 @@ fn show_part(out: &mut String, part: &Part) -> Result<(), Fail> {
 }
 
 /// The tree, each part, and behind a last bar the variables of the answer.
-pub fn show_split(alloc: Global, out: &mut String, split: &Split) -> Result<(), Fail> {
-    show_tree(alloc, out, &split.tree)?;
+pub fn split_text(alloc: Global, split: &Split) -> Result<String, Fail> {
+    let mut out = tree_text(alloc, &split.tree)?;
     for part in split.parts.as_slice() {
-        show_part(out, part)?;
+        show_part(&mut out, part)?;
     }
     out.push_str(" | ")?;
-    show_names(out, split.variables.as_slice())
+    show_names(&mut out, split.variables.as_slice())?;
+    Ok(out)
 }

@@ -1,6 +1,6 @@
 //! Queries, the parts that they are cut into, and the variables of parts and answers, worked by hand.
 
-use crate::showing::show_split;
+use crate::showing::split_text;
 use sparql_algebra::prepare;
 use std::alloc::Global;
 use std::test::Fail;
@@ -96,12 +96,10 @@ const QUERIES: [(&[u8], &str); 22] = [
 
 /// How a query's text is cut, or why it is not.
 fn shown(alloc: Global, text: &[u8]) -> Result<String, Fail> {
-    let mut out = String::new(alloc);
     match prepare(alloc, text) {
-        Ok(split) => show_split(alloc, &mut out, &split)?,
-        Err(fault) => out.push_str(format!(in alloc; "{fault:?}")?.as_str())?,
+        Ok(split) => split_text(alloc, &split),
+        Err(fault) => Ok(format!(in alloc; "{fault:?}")?),
     }
-    Ok(out)
 }
 
 #[test]
