@@ -18,6 +18,8 @@ import subprocess
 import sys
 import tempfile
 
+from filters import told
+
 ROOT = pathlib.Path(__file__).resolve().parent.parent
 HOME = ROOT / "bench" / "out" / "joins"
 STANDS_ON = ["term_core", "xsd_num", "xsd_time", "value_table", "sparql_tree", "sparql_value", "expr_value", "expr_eval", "row_bag"]
@@ -40,20 +42,6 @@ TASKS = [
     ("distinct", "shared", 100_000, 100_000),
     ("join", "apart", 1_000, 1_000_000),
 ]
-
-
-def told(program, path, text):
-    """What the program tells of a text, and its processor seconds."""
-    with open(path, "w", encoding="utf-8") as file:
-        file.write(text)
-    with open(path, "rb") as file:
-        child = subprocess.Popen([program], stdin=file, stdout=subprocess.PIPE)
-        line = child.stdout.read().decode(errors="replace").strip()
-        _, status, usage = os.wait4(child.pid, 0)
-    child.returncode = os.waitstatus_to_exitcode(status)
-    if child.returncode != 0:
-        sys.exit(f"{program} ended with {child.returncode} on {text}")
-    return line, usage.ru_utime + usage.ru_stime
 
 
 def seconds(program, path, task, wanted, runs):
