@@ -3,25 +3,23 @@
 
 Usage: bench/filters.py [--runs N]
 
-What filters is `expr_eval::truth_of` in a small program, bench/filter_rows.txt. It is built in bench/out/filters, a copy of the crates
-with the program beside them; the first build proves what it stands on, which takes some minutes. The program makes the rows and goes
-over them in so many rounds; the time of a row is the difference of six rounds and one, of the best of the runs, over five million. The
-table has how often the filter is true in a round, and the nanoseconds of a row. A filter that is true otherwise often than its rule
-says stops the benchmark. Where valgrind is installed, its count of allocations of a run with three rounds has to be that of a run
-with one. Only Python's standard library is used.
+What filters is `expr_eval::truth_of` in a small program, bench/filter_rows.txt, which building.py builds. The program makes the rows
+and goes over them in so many rounds; the time of a row is the difference of six rounds and one, of the best of the runs, over five
+million. The table has how often the filter is true in a round, and the nanoseconds of a row. A filter that is true otherwise often
+than its rule says stops the benchmark. Where valgrind is installed, its count of allocations of a run with three rounds has to be
+that of a run with one. Only Python's standard library is used.
 """
 
 import argparse
 import os
-import pathlib
 import re
 import shutil
 import subprocess
 import sys
 import tempfile
 
-ROOT = pathlib.Path(__file__).resolve().parent.parent
-HOME = ROOT / "bench" / "out" / "filters"
+from building import built
+
 STANDS_ON = [
     "term_core", "xsd_num", "xsd_time", "value_table", "sparql_tree", "sparql_value", "expr_value", "expr_eval",
     "sparql_lex", "sparql_symbol", "sparql_grammar", "sparql_scope", "sparql_read",
@@ -100,29 +98,11 @@ def allocations(program, path, rounds):
     return re.search(r"total heap usage: ([\d,]+) allocs", done.stderr.decode()).group(1)
 
 
-def built():
-    """The program, built anew where a source changed."""
-    home = HOME / "crates" / "filter_rows"
-    (home / "src").mkdir(parents=True, exist_ok=True)
-    for crate in STANDS_ON:
-        for part in ["src", "specs", "proofs"]:
-            if (ROOT / "crates" / crate / part).is_dir():
-                shutil.copytree(ROOT / "crates" / crate / part, HOME / "crates" / crate / part, dirs_exist_ok=True)
-    shutil.copyfile(ROOT / "bench" / "filter_rows.txt", home / "src" / "main.rt")
-    lines = (ROOT / "crates.txt").read_text(encoding="utf-8").splitlines()
-    kept = [line for line in lines if line.split(":")[0].split(" ")[0] in STANDS_ON]
-    (HOME / "crates.txt").write_text("\n".join([*kept, f"filter_rows: {' '.join([*STANDS_ON, *LIBRARIES])}"]) + "\n", encoding="utf-8")
-    done = subprocess.run(["rt", "run"], cwd=home, input=text_of(1, "?n < 5").encode(), capture_output=True, check=False)
-    if done.returncode != 0:
-        sys.exit(done.stdout.decode(errors="replace")[-2000:] + done.stderr.decode(errors="replace")[-2000:])
-    return home / "out" / "filter_rows"
-
-
 def main():
     parser = argparse.ArgumentParser(description=__doc__.split("\n")[0])
     parser.add_argument("--runs", type=int, default=3)
     given = parser.parse_args()
-    program = built()
+    program = built("filter_rows", STANDS_ON, LIBRARIES, text=text_of(1, "?n < 5").encode())
     with tempfile.TemporaryDirectory() as scratch:
         path = os.path.join(scratch, "filter.rq")
         first = table(program, path, given.runs)

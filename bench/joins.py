@@ -3,25 +3,21 @@
 
 Usage: bench/joins.py [--runs N]
 
-What joins is the crate `row_bag` in a small program, bench/join_rows.txt. It is built in bench/out/joins, a copy of the crates with the
-program beside them; the first build proves what it stands on, which takes some minutes. The program makes two lists of so many rows of
-two names each; "shared" says that one name is on both sides, with as many matches as rows, and "apart" that none is. The time is the
-processor time of the program less that of a run that makes the rows alone, each the best of the runs. The growth is the ratio to the
-line above. A run that gives another number of rows than it should stops the benchmark. Only Python's standard library is used.
+What joins is the crate `row_bag` in a small program, bench/join_rows.txt, which building.py builds. The program makes two lists of so
+many rows of two names each; "shared" says that one name is on both sides, with as many matches as rows, and "apart" that none is.
+The time is the processor time of the program less that of a run that makes the rows alone, each the best of the runs. The growth is
+the ratio to the line above. A run that gives another number of rows than it should stops the benchmark. Only Python's standard
+library is used.
 """
 
 import argparse
 import os
-import pathlib
-import shutil
-import subprocess
 import sys
 import tempfile
 
+from building import built
 from filters import told
 
-ROOT = pathlib.Path(__file__).resolve().parent.parent
-HOME = ROOT / "bench" / "out" / "joins"
 STANDS_ON = ["term_core", "xsd_num", "xsd_time", "value_table", "sparql_tree", "sparql_value", "expr_value", "expr_eval", "row_bag"]
 LIBRARIES = ["jiff_core"]
 
@@ -69,29 +65,11 @@ def table(program, path, runs):
     return aimed
 
 
-def built():
-    """The program, built anew where a source changed."""
-    home = HOME / "crates" / "join_rows"
-    (home / "src").mkdir(parents=True, exist_ok=True)
-    for crate in STANDS_ON:
-        for part in ["src", "specs", "proofs"]:
-            if (ROOT / "crates" / crate / part).is_dir():
-                shutil.copytree(ROOT / "crates" / crate / part, HOME / "crates" / crate / part, dirs_exist_ok=True)
-    shutil.copyfile(ROOT / "bench" / "join_rows.txt", home / "src" / "main.rt")
-    lines = (ROOT / "crates.txt").read_text(encoding="utf-8").splitlines()
-    kept = [line for line in lines if line.split(":")[0].split(" ")[0] in STANDS_ON]
-    (HOME / "crates.txt").write_text("\n".join([*kept, f"join_rows: {' '.join([*STANDS_ON, *LIBRARIES])}"]) + "\n", encoding="utf-8")
-    done = subprocess.run(["rt", "run"], cwd=home, input=b"none apart 1", capture_output=True, check=False)
-    if done.returncode != 0:
-        sys.exit(done.stdout.decode(errors="replace")[-2000:] + done.stderr.decode(errors="replace")[-2000:])
-    return home / "out" / "join_rows"
-
-
 def main():
     parser = argparse.ArgumentParser(description=__doc__.split("\n")[0])
     parser.add_argument("--runs", type=int, default=3)
     given = parser.parse_args()
-    program = built()
+    program = built("join_rows", STANDS_ON, LIBRARIES, text=b"none apart 1")
     with tempfile.TemporaryDirectory() as scratch:
         spent = table(program, os.path.join(scratch, "task.txt"), given.runs)
         if spent > AIM:

@@ -3,23 +3,20 @@
 
 Usage: bench/pages.py [--runs N]
 
-What writes and reads is `page_json` in a small program, bench/page_timer.txt, which times itself. It is built in bench/out/pages, a copy
-of the crates with the program beside them; the first build proves what it stands on, which takes some minutes. A page has rows of
-four short terms, an IRI, a blank node, a literal with a datatype and one with a tag. In each run the program makes the page, writes
-it nine times and reads what is written nine times; that must be the text that is made here by a fixed rule. The table has the
-milliseconds of the best round at each number of rows, and the growth from one to the next (2 where the time is linear). Below the
-table stand the aims that are missed: 10,000 rows are written in 10 ms and read in 100 ms. Only Python's standard library is used.
+What writes and reads is `page_json` in a small program, bench/page_timer.txt, which times itself and which building.py builds. A page
+has rows of four short terms, an IRI, a blank node, a literal with a datatype and one with a tag. In each run the program makes the
+page, writes it nine times and reads what is written nine times; that must be the text that is made here by a fixed rule. The table
+has the milliseconds of the best round at each number of rows, and the growth from one to the next (2 where the time is linear). Below
+the table stand the aims that are missed: 10,000 rows are written in 10 ms and read in 100 ms. Only Python's standard library is used.
 """
 
 import argparse
 import json
-import pathlib
-import shutil
 import subprocess
 import sys
 
-ROOT = pathlib.Path(__file__).resolve().parent.parent
-PAGES = ROOT / "bench" / "out" / "pages"
+from building import built
+
 STANDS_ON = ["term_core", "page_json"]
 LIBRARIES = ["serde_json", "json", "base64", "sha2"]
 
@@ -78,30 +75,11 @@ def table(program, runs):
     return dict(zip(AIMS, aimed))
 
 
-def built():
-    """The program, built anew where a source changed."""
-    home = PAGES / "crates" / "page_timer"
-    (home / "src").mkdir(parents=True, exist_ok=True)
-    for crate in STANDS_ON:
-        for part in ["src", "specs", "proofs"]:
-            shutil.rmtree(PAGES / "crates" / crate / part, ignore_errors=True)
-            shutil.copytree(ROOT / "crates" / crate / part, PAGES / "crates" / crate / part)
-    shutil.copyfile(ROOT / "bench" / "page_timer.txt", home / "src" / "main.rt")
-    lines = (ROOT / "crates.txt").read_text(encoding="utf-8").splitlines()
-    kept = [line for line in lines if line.split(":")[0] in STANDS_ON]
-    own = f"page_timer: {' '.join([*LIBRARIES, *STANDS_ON])}"
-    (PAGES / "crates.txt").write_text("\n".join([*kept, own]) + "\n", encoding="utf-8")
-    done = subprocess.run(["rt", "run", "--jobs", "1", "--", "1"], cwd=home, capture_output=True, check=False)
-    if done.returncode != 0:
-        sys.exit(done.stdout.decode(errors="replace")[-2000:] + done.stderr.decode(errors="replace")[-2000:])
-    return home / "out" / "page_timer"
-
-
 def main():
     parser = argparse.ArgumentParser(description=__doc__.split("\n")[0])
     parser.add_argument("--runs", type=int, default=3)
     given = parser.parse_args()
-    for what, time in table(built(), given.runs).items():
+    for what, time in table(built("page_timer", STANDS_ON, LIBRARIES, words=["1"]), given.runs).items():
         if time > AIMS[what]:
             print(f"misses the aim: {AIMED_AT:,} rows are {what} in {time:.1f} ms, and not in {AIMS[what]:.0f} ms")
 

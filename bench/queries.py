@@ -3,28 +3,25 @@
 
 Usage: bench/queries.py [--runs N] [--only WORD]
 
-What reads is `sparql_read::read_query`, and what prepares `sparql_algebra::prepare`, in a small program, bench/query_reader.txt. It
-is built in bench/out/reader, a copy of the crates with the program beside them; the first build proves what it stands on, which
-takes some minutes. Each query is made by a
-fixed rule, of as many pieces as fit into 65,536, 131,072 and 262,144 bytes. The table has the answer, the processor seconds of the
-best of three runs at each size, the growth from size to size (2 where the time is linear), and the peak memory at the last size;
-then what preparing answers at the last size, its seconds, and how many readings these are. A query that is read otherwise than its
-rule says stops the benchmark. Below the table stand the queries that miss an aim: one second for reading 262,144 bytes, and three
-readings, or a twentieth of a second, for preparing. Only Python's standard library is used.
+What reads is `sparql_read::read_query`, and what prepares `sparql_algebra::prepare`, in a small program, bench/query_reader.txt,
+which building.py builds. Each query is made by a fixed rule, of as many pieces as fit into 65,536, 131,072 and 262,144 bytes. The
+table has the answer, the processor seconds of the best of three runs at each size, the growth from size to size (2 where the time is
+linear), and the peak memory at the last size; then what preparing answers at the last size, its seconds, and how many readings these
+are. A query that is read otherwise than its rule says stops the benchmark. Below the table stand the queries that miss an aim: one
+second for reading 262,144 bytes, and three readings, or a twentieth of a second, for preparing. Only Python's standard library is
+used.
 """
 
 import argparse
 import os
-import pathlib
-import shutil
 import subprocess
 import sys
 import tempfile
 
-ROOT = pathlib.Path(__file__).resolve().parent.parent
-READER = ROOT / "bench" / "out" / "reader"
+from building import built
+
 STANDS_ON = ["term_core", "xsd_num", "sparql_tree", "sparql_lex", "sparql_symbol", "sparql_grammar", "sparql_scope", "sparql_read",
-             "nt_text", "value_table", "sparql_value", "sparql_print", "sparql_algebra"]
+             "nt_text", "value_table", "sparql_value", "sparql_print", "sparql_translation", "sparql_algebra"]
 
 SIZES = [65_536, 131_072, 262_144]
 AIM = 1.0
@@ -222,29 +219,12 @@ def table(program, path, given):
     return [missed for name, rule, answer in chosen for missed in row(program, path, name, rule, answer, given.runs)]
 
 
-def built():
-    """The program, built anew where a source changed."""
-    home = READER / "crates" / "query_reader"
-    (home / "src").mkdir(parents=True, exist_ok=True)
-    for crate in STANDS_ON:
-        for part in ["src", "specs", "proofs"]:
-            shutil.copytree(ROOT / "crates" / crate / part, READER / "crates" / crate / part, dirs_exist_ok=True)
-    shutil.copyfile(ROOT / "bench" / "query_reader.txt", home / "src" / "main.rt")
-    lines = (ROOT / "crates.txt").read_text(encoding="utf-8").splitlines()
-    kept = [line for line in lines if line.split(":")[0].split(" ")[0] in STANDS_ON]
-    (READER / "crates.txt").write_text("\n".join([*kept, f"query_reader: {' '.join(STANDS_ON)}"]) + "\n", encoding="utf-8")
-    done = subprocess.run(["rt", "run"], cwd=home, input=b"SELECT * {}", capture_output=True, check=False)
-    if done.returncode != 0:
-        sys.exit(done.stdout.decode(errors="replace")[-2000:] + done.stderr.decode(errors="replace")[-2000:])
-    return home / "out" / "query_reader"
-
-
 def main():
     parser = argparse.ArgumentParser(description=__doc__.split("\n")[0])
     parser.add_argument("--runs", type=int, default=3)
     parser.add_argument("--only", default="", help="the queries with this in their name")
     given = parser.parse_args()
-    program = built()
+    program = built("query_reader", STANDS_ON, [], text=b"SELECT * {}")
     with tempfile.TemporaryDirectory() as scratch:
         path = os.path.join(scratch, "query.rq")
         for missed in table(program, path, given):
