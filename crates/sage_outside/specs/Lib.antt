@@ -14,4 +14,5 @@ pub mod Held
 pub mod Peers
 pub mod DoorState
 pub mod DoorSlots
+pub mod Parts
 pub mod Areas

@@ -42,3 +42,17 @@ impl From<Failed> for StoreFault {
         StoreFault::Blocks
     }
 }
+
+impl From<ReadFault> for StoreFault {
+    ghost use Rattle.std.specs.Prelude.{◌≡◌};
+    ghost use Rattle.sage_outside.specs.Parts.{wider};
+
+    ghost from_gives = { λ x y. y ≡ wider x };
+
+    fn from(fault: ReadFault) -> StoreFault {
+        match fault {
+            ReadFault::Blocks => StoreFault::Blocks,
+            ReadFault::Damaged { block } => StoreFault::Damaged { block },
+        }
+    }
+}

@@ -23,6 +23,7 @@ mod shelf;
 mod sink;
 mod sockets;
 mod stream_link;
+mod tags;
 
 pub use area::{Area, block_of, read_area};
 pub use blocks::Blocks;
@@ -43,3 +44,4 @@ pub use shelf::{Shelf, ShelfFault};
 pub use sink::{Failed, Sink};
 pub use sockets::{ListenerDoor, StreamConn};
 pub use stream_link::StreamLink;
+pub use tags::{part_of_block, tag, tag_agrees};
