@@ -1,6 +1,7 @@
-//! Writes sorted lists of numbered triples, as bytes and into blocks.
+//! Writes trees of numbered triples into blocks: the sorted list, and levels above it.
 #![tactic(auto)]
 
-mod packing;
+mod level;
+mod tree;
 
-pub use packing::{image, push_entries};
+pub use tree::{image, push_tree};

@@ -15,8 +15,8 @@ use Rattle.term_core.specs.Ids.{id_cmp}
 use Rattle.term_core.proofs.IdOrder.{ids_total}
 use Rattle.btree_scan.specs.declared.tree.Tree.{Tree}
 use Rattle.btree_scan.specs.declared.prefix.Prefix.{Prefix}
-use Rattle.btree_scan.specs.Entries.{Lists}
-use Rattle.btree_scan.specs.Cuts.{front_cmp, prefix_cmp, prefix_key, stands_before, IsEdge, IsKeyRange}
+use Rattle.btree_scan.specs.Levels.{Lists, passes, IsEdgeAt}
+use Rattle.btree_scan.specs.Cuts.{front_cmp, prefix_cmp, prefix_key, stands_before, IsKeyRange}
 
 -- what stands in front of a key that passes passes too
 abbrev pub IsFront : (IdTriple → Bool) → List IdTriple → Type 0
@@ -129,20 +129,20 @@ same_at : (xs : List IdTriple) (k m : ℕ) (u v : IdTriple) → k ≡ m → slic
 same_at xs k m u v e at_m at_k = let f : slice_get xs k ≡ slice_get xs m = ap (slice_get xs) e in cc
 
 -- an edge in a list whose front passes cuts the list
-module _ (tree : Tree) (es : List IdTriple) (image : List ℕ) (p : IdTriple → Bool) (n : ℕ) (lists : Lists tree es image) (front : IsFront p es) (edge : IsEdge tree p image n) where
+module _ (tree : Tree) (es : List IdTriple) (image : List ℕ) (p : IdTriple → Bool) (n : ℕ) (lists : Lists tree es image) (front : IsFront p es) (edge : IsEdgeAt tree 0 p image n) where
   below_edge : (k : ℕ) (x : IdTriple) → slice_get es k ≡ Some x → k < n → p x ≡ true
   below_edge k x at lt =
       let last = get_within es (n - 1) (omega (arith, edge.within, lists.entries)) in
-      let passes : p last.0 ≡ true = ap p (sym (lists.each (n - 1) last.0 last.1)) ∙ edge.below (n - 1) (omega arith) in
+      let passed : p last.0 ≡ true = ap (passes p) (sym (lists.each (n - 1) last.0 last.1)) ∙ edge.below (n - 1) (omega arith) (omega arith) in
       by_place (p x ≡ true) k (n - 1) (omega arith)
-      (λ e. ap p (sym (same_at es k (n - 1) last.0 x e last.1 at)) ∙ passes)
-      (λ lower. front k (n - 1) x last.0 at last.1 lower passes)
+      (λ e. ap p (sym (same_at es k (n - 1) last.0 x e last.1 at)) ∙ passed)
+      (λ lower. front k (n - 1) x last.0 at last.1 lower passed)
 
   above_edge : (k : ℕ) (x : IdTriple) → slice_get es k ≡ Some x → n ≤ k → p x ≡ false
   above_edge k x at le =
       let long = slice_get_within es k x at in
       let here = get_within es n (omega arith) in
-      let fails : p here.0 ≡ false = ap p (sym (lists.each n here.0 here.1)) ∙ edge.above (omega (arith, lists.entries)) in
+      let fails : p here.0 ≡ false = ap (passes p) (sym (lists.each n here.0 here.1)) ∙ edge.above (omega (arith, lists.entries)) in
       by_place (p x ≡ false) n k le
       (λ e. ap p (sym (same_at es k n here.0 x (sym e) here.1 at)) ∙ fails)
       (λ higher. not_true (p x) (λ h. let e = front n k here.0 x here.1 at higher h in cc))
@@ -175,7 +175,7 @@ counted p (x ∷ xs) (suc n) cut le =
     (counted p xs n record { below = λ k y at lt. cut.below (suc k) y at (omega arith); above = λ k y at ge. cut.above (suc k) y at (omega arith) } (omega arith))
 
 -- an edge is the number of keys before the cut
-pub edge_counts : (tree : Tree) (es : List IdTriple) (image : List ℕ) (through : Bool) (prefix : Prefix) (n : ℕ) → Lists tree es image → IsEdge tree (stands_before through prefix) image n
+pub edge_counts : (tree : Tree) (es : List IdTriple) (image : List ℕ) (through : Bool) (prefix : Prefix) (n : ℕ) → Lists tree es image → IsEdgeAt tree 0 (stands_before through prefix) image n
     → n ≡ count_by (stands_before through prefix) es
 edge_counts tree es image through prefix n lists edge =
     counted (stands_before through prefix) es n (cut_at tree es image (stands_before through prefix) n lists (front_before through prefix es lists.sorted) edge) (omega (arith, edge.within, lists.entries))
@@ -192,7 +192,7 @@ ties Greater e f = cc
 
 -- two edges are the range of the prefix
 pub edges_range : (tree : Tree) (es : List IdTriple) (image : List ℕ) (prefix : Prefix) (first end : ℕ) → Lists tree es image
-    → IsEdge tree (stands_before false prefix) image first → IsEdge tree (stands_before true prefix) image end → IsKeyRange prefix es first end
+    → IsEdgeAt tree 0 (stands_before false prefix) image first → IsEdgeAt tree 0 (stands_before true prefix) image end → IsKeyRange prefix es first end
 edges_range tree es image prefix first end lists edge last =
     let low = cut_at tree es image (stands_before false prefix) first lists (front_before false prefix es lists.sorted) edge in
     let high = cut_at tree es image (stands_before true prefix) end lists (front_before true prefix es lists.sorted) last in
@@ -207,3 +207,16 @@ edges_range tree es image prefix first end lists edge last =
         λ inside. ties (prefix_cmp prefix e) (low.above k e at inside.0) (high.below k e at inside.1),
       );
     }
+
+-- the first place of a range is not behind its end
+pub edges_ordered : (tree : Tree) (es : List IdTriple) (image : List ℕ) (prefix : Prefix) (first end : ℕ) → Lists tree es image
+    → IsEdgeAt tree 0 (stands_before false prefix) image first → IsEdgeAt tree 0 (stands_before true prefix) image end → first ≤ end
+edges_ordered tree es image prefix first end lists edge last =
+    let low = cut_at tree es image (stands_before false prefix) first lists (front_before false prefix es lists.sorted) edge in
+    let high = cut_at tree es image (stands_before true prefix) end lists (front_before true prefix es lists.sorted) last in
+    side (first ≤ end) end first
+    (λ lt.
+    let here = get_within es end (omega (arith, edge.within, lists.entries)) in
+    let a : stands_before true prefix here.0 ≡ true = through_too prefix here.0 (low.below end here.0 here.1 lt) in
+    let b : stands_before true prefix here.0 ≡ false = high.above end here.0 here.1 (omega arith) in absurd (cc))
+    (λ le. le)

@@ -1,2 +1,6 @@
+pub mod Pieces
+pub mod Edges
+pub mod Three
 pub mod Keys
-pub mod Halves
+pub mod Written
+pub mod Bytes

@@ -1,13 +1,11 @@
 -- Where a sorted list is cut in two by a prefix of its keys.
-use Rattle.std.specs.Prelude.{◌≡◌, ℕ, ◌+◌, ◌≤◌, ◌<◌, ◌==◌, ◌↔◌, Bool, true, false, List, slice_get, Some, count_by, if◌then◌else◌}
+use Rattle.std.specs.Prelude.{◌≡◌, ℕ, ◌≤◌, ◌<◌, ◌==◌, ◌↔◌, Bool, true, false, List, slice_get, Some, count_by, if◌then◌else◌}
 use Rattle.std.specs.Ordering.{nat_cmp, ordering_then, is_lt, is_le}
 use Rattle.std.specs.declared.cmp.Ordering.{Ordering}
 use Rattle.std.specs.declared.cmp.Ordering.TheVariants.{Equal}
 use Rattle.term_core.specs.declared.pattern.IdTriple.{IdTriple}
 use Rattle.term_core.specs.Ids.{id_cmp}
-use Rattle.btree_scan.specs.declared.tree.Tree.{Tree}
 use Rattle.btree_scan.specs.declared.prefix.Prefix.{Prefix}
-use Rattle.btree_scan.specs.Entries.{stored_entry}
 
 -- the order of keys by the first n of their ids
 unfoldable pub front_cmp : ℕ → IdTriple → IdTriple → Ordering
@@ -33,12 +31,6 @@ HasPrefix prefix e = prefix_cmp prefix e ≡ Equal
 abbrev pub stands_before : Bool → Prefix → IdTriple → Bool
 stands_before true prefix e = is_le (prefix_cmp prefix e)
 stands_before false prefix e = is_lt (prefix_cmp prefix e)
-
--- a place at which the entry in front of it passes a test, and the one that stands there does not
-pub record IsEdge (tree : Tree) (test : IdTriple → Bool) (image : List ℕ) (place : ℕ) : Type 0 where
-  pub within : place ≤ tree.entries
-  pub below : (k : ℕ) → k + 1 ≡ place → test (stored_entry tree k image) ≡ true
-  pub above : place < tree.entries → test (stored_entry tree place image) ≡ false
 
 -- from the first to the end stand the keys with the prefix, and no others
 pub record IsKeyRange (prefix : Prefix) (es : List IdTriple) (first end : ℕ) : Type 0 where

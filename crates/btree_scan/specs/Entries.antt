@@ -1,12 +1,11 @@
--- The entries of a list in blocks, by their places.
-use Rattle.std.specs.Prelude.{◌≡◌, ℕ, ◌+◌, ◌*◌, ◌≤◌, ◌⊎◌, List, length, take, drop, slice_get, Some}
+-- The entries of a tree, level by level.
+use Rattle.std.specs.Prelude.{◌≡◌, ℕ, ◌+◌, ◌*◌, ◌≤◌, ◌<◌, Bool, true, false, List, take, drop, Result, Ok, Err}
 use Rattle.std.specs.Int.{w32, from_be_bytes}
-use Rattle.std.specs.List.Sorted.{IsStrictlySortedBy}
+use Rattle.sage_outside.specs.Blocks.{block_at}
+use Rattle.sage_outside.specs.Parts.{is_sound}
+use Rattle.sage_outside.specs.declared.fault.ReadFault.{ReadFault}
+use Rattle.sage_outside.specs.declared.fault.ReadFault.TheVariants as faults
 use Rattle.term_core.specs.declared.pattern.IdTriple.{IdTriple}
-use Rattle.term_core.specs.Ids.{id_cmp}
-use Rattle.sage_outside.specs.declared.area.Area.{Area}
-use Rattle.sage_outside.specs.Areas.{part_of}
-use Rattle.btree_scan.specs.declared.tree.Tree.{Tree}
 
 -- the entry that twelve bytes spell: three ids in four bytes each, the highest first
 unfoldable pub entry_in : List ℕ → IdTriple
@@ -16,22 +15,19 @@ entry_in bytes = record {
   o = from_be_bytes w32 (take 4 (drop 8 bytes));
 }
 
--- the blocks from the first one of a list on
-abbrev pub area_of : Tree → Area
-area_of tree = record { first = tree.first; payload = tree.payload }
+-- the entry at a place in bytes
+abbrev pub entry_of : List ℕ → ℕ → IdTriple
+entry_of bytes k = entry_in (take 12 (drop (12 * k) bytes))
 
--- entry k of a list, as it stands in the bytes of an image
-unfoldable pub stored_entry : Tree → ℕ → List ℕ → IdTriple
-stored_entry tree k image = entry_in (part_of (area_of tree) (12 * k) 12 image)
+-- a place up to a count, in front of which a test holds, and at which it does not
+pub record IsEdgeOf (test : ℕ → Bool) (low high place : ℕ) : Type 0 where
+  pub from : low ≤ place
+  pub within : place ≤ high
+  pub below : (k : ℕ) → low ≤ k → k + 1 ≡ place → test k ≡ true
+  pub above : place < high → test place ≡ false
 
--- the payload is one of the two, the entries are within the limit and the list's blocks within so many blocks
-pub record ListLies (tree : Tree) (count : ℕ) : Type 0 where
-  pub payload : (tree.payload ≡ 4096) ⊎ (tree.payload ≡ 4080)
-  pub few : tree.entries ≤ 4194303
-  pub within : tree.first * tree.payload + 12 * tree.entries ≤ count * tree.payload
-
--- the image lists these keys, which rise strictly: entry k is the key of place k, and there are no more
-pub record Lists (tree : Tree) (es : List IdTriple) (image : List ℕ) : Type 0 where
-  pub sorted : IsStrictlySortedBy id_cmp es
-  pub entries : tree.entries ≡ length es
-  pub each : (k : ℕ) (e : IdTriple) → slice_get es k ≡ Some e → stored_entry tree k image ≡ e
+-- what a search in one block answers: an edge, or the block, where its tag does not agree
+abbrev pub Searched : ℕ → ℕ → (IdTriple → Bool) → ℕ → List ℕ → Result ℕ ReadFault → Type 0
+Searched p n test count image (Ok place) = (is_sound p n (block_at n image) ≡ true) × IsEdgeOf (λ k. test (entry_of (block_at n image) k)) 0 count place
+Searched p n test count image (Err (faults.Damaged block)) = (is_sound p n (block_at n image) ≡ false) × (block ≡ n)
+Searched p n test count image (Err faults.Blocks) = Unit {0}

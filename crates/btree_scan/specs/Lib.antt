@@ -1,2 +1,4 @@
 pub mod Entries
 pub mod Cuts
+pub mod Levels
+pub mod Written
