@@ -23,10 +23,10 @@ prefix_decides (x ∷ p) rest [] order is apart = is
 prefix_decides (x ∷ p) rest (y ∷ b) order is apart =
     by_first (nat_cmp x y) (slice_cmp nat_cmp p (take (length p) b)) (slice_cmp nat_cmp (p ++ rest) b) order (λ e. prefix_decides p rest b order e apart) is
 
-same_some : {A : Type 0} (a b : A) → Some a ≡ Some b → a ≡ b
+pub same_some : {A : Type 0} (a b : A) → Some a ≡ Some b → a ≡ b
 same_some a b e = cc
 
-bind_is : {A B : Type 0} (o : Option A) (f : A → Option B) (y : B) → (o >>= f) ≡ Some y → (x : A) × (o ≡ Some x) × (f x ≡ Some y)
+pub bind_is : {A B : Type 0} (o : Option A) (f : A → Option B) (y : B) → (o >>= f) ≡ Some y → (x : A) × (o ≡ Some x) × (f x ≡ Some y)
 bind_is None f y e = cc
 bind_is (Some x) f y e = (x, refl, e)
 

@@ -49,6 +49,14 @@ nowhere ts t low high between le has =
     let tie = ties t in
     by_side at.0 low (λ lt. let e = between.below at.0 t at.1 lt in cc) (λ ge. let e = between.above at.0 t at.1 (omega arith) in cc)
 
+-- what is left after one more step
+pub halved : (a b s n : ℕ) → 2 * a ≤ b → b * 2 ^ s ≤ n → a * 2 ^ (s + 1) ≤ n
+halved a b s n h i =
+    let e : 2 ^ (s + 1) ≡ 2 ^ s * 2 ^ 1 = pow-add 2 s 1 in
+    let f : a * (2 ^ s * 2 ^ 1) ≡ (2 * a) * 2 ^ s = grind arith in
+    let k : (2 * a) * 2 ^ s ≤ b * 2 ^ s = mul-le-mul_right (2 ^ s) h in
+    rw e (rw f (omega arith))
+
 pub ended : (a s n : ℕ) → s ≡ 32 → a * 2 ^ s ≤ n → n < 2 ^ 32 → a ≡ 0
 ended a s n e h i = let j = rw e at h in omega arith
 

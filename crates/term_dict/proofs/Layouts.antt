@@ -1,19 +1,21 @@
 -- An image that has the places and records of a list of terms is read as that list.
-use Rattle.std.proofs.Common.{◌≡◌, ℕ, zero, suc, ◌+◌, ◌-◌, ◌*◌, ◌<◌, ◌≤◌, ◌++◌, List, [], ◌∷◌, length, take, drop, get_or, Some, Ok, false, refl, sym, ap, subst, ◌∙◌, arith, length-append}
+use Rattle.std.proofs.Common.{◌≡◌, ℕ, zero, suc, ◌+◌, ◌-◌, ◌*◌, ◌/◌, ◌<◌, ◌≤◌, ◌++◌, List, [], ◌∷◌, length, take, drop, get_or, Some, Ok, false, refl, sym, ap, subst, ◌∙◌, arith, length-append, length-take}
 use Rattle.std.specs.List.{slice_get, flat_map}
 use Rattle.std.specs.Prelude.{nat_lt, nat_le, max, ◌==◌, if◌then◌else◌}
 use Rattle.std.proofs.lemmas.Bool.Decides.{nat_tests}
 use Rattle.std.specs.Int.{w64, to_be_bytes, from_be_bytes}
 use Rattle.std.proofs.lemmas.Nat.{from_be_bytes-to_be_bytes_8}
 use Rattle.std.proofs.lemmas.List.{take_at, drop_at, drop-drop}
-use Rattle.sage_outside.specs.Areas.{part_of, area_bytes, block_of}
-use Rattle.sage_outside.proofs.Parts.{front_behind}
+use Rattle.sage_outside.specs.Areas.{part_of, part_at, area_bytes, block_of}
+use Rattle.sage_outside.proofs.Joins.{sound_part, area_within}
+use Rattle.sage_outside.proofs.Pieces.{front_behind}
+use Rattle.term_dict.proofs.Places.{record_place, pair_sound}
 use Rattle.term_core.specs.declared.term.Term.{Term}
 use Rattle.term_core.specs.declared.term.Term.TheVariants.{Iri, Blank, Literal}
 use Rattle.term_dict.specs.declared.dict.Dict.{Dict}
 use Rattle.term_dict.specs.Records.{record_of, term_in}
 use Rattle.term_dict.specs.Built.{records_of, places_from, longest_of, IsLaidOut}
-use Rattle.term_dict.specs.Layout.{place_area, record_area, limit_of, stored_term, record_place, span_of, span_at, span_length, longest_to, longest_record, record_in, or_block}
+use Rattle.term_dict.specs.Layout.{place_area, record_area, limit_of, stored_term, span_of, span_from, span_at, span_length, longest_to, longest_record, record_in, or_blame, term_from}
 use Rattle.term_dict.specs.Ranks.{HoldsTerms}
 use Rattle.term_dict.proofs.Held.{get_within}
 use Rattle.term_dict.proofs.Ranks.{inside}
@@ -31,6 +33,14 @@ numbered (x ∷ xs) (suc k) lt =
     ap (λ n. take 8 (drop n (to_be_bytes w64 x ++ flat_map (to_be_bytes w64) xs))) place
     ∙ ap (take 8) (sym (drop-drop (8 * k) 8 (to_be_bytes w64 x ++ flat_map (to_be_bytes w64) xs)))
     ∙ numbered xs k (omega arith)
+
+length_numbers : (xs : List ℕ) → length (flat_map (to_be_bytes w64) xs) ≡ 8 * length xs
+length_numbers [] = refl
+length_numbers (x ∷ xs) = length-append (to_be_bytes w64 x) (flat_map (to_be_bytes w64) xs) ∙ omega (arith, length_numbers xs)
+
+-- a list of which so many were taken has so many
+long_enough : (n : ℕ) (xs ys : List ℕ) → take n xs ≡ ys → length ys ≡ n → n ≤ length xs
+long_enough n xs ys e f = omega (arith, length-take n xs, ap length e, f)
 
 -- record k begins behind the records before it
 place_get : (n : ℕ) (ts : List Term) (k : ℕ) → k ≤ length ts → get_or (places_from n ts) k 0 ≡ n + length (records_of (take k ts))
@@ -105,6 +115,17 @@ module _ (d : Dict) (ts : List Term) (image : List ℕ) (laid : IsLaidOut d ts i
       cut ∙ ap (λ l. take 8 (drop (8 * k) l)) laid.places ∙ numbered (places_from 0 ts) k (omega (arith, length_places 0 ts)) ∙ ap (to_be_bytes w64) (place_get 0 ts k le ∙ omega arith) in
       ap (from_be_bytes w64) here ∙ from_be_bytes-to_be_bytes_8 n (omega (arith, within ts k, laid.bytes, laid.fits))
 
+  place_sound : (k : ℕ) → k < length ts → part_at (place_area d) (8 * k) 16 image ≡ Ok (part_of (place_area d) (8 * k) 16 image)
+  place_sound k lt =
+      let numbers : length (flat_map (to_be_bytes w64) (places_from 0 ts)) ≡ 8 * (length ts + 1) = length_numbers (places_from 0 ts) ∙ ap (λ n. 8 * n) (length_places 0 ts) in
+      let all = area_within (place_area d) (8 * (length ts + 1)) image (omega arith) (long_enough (8 * (length ts + 1)) (area_bytes (place_area d) image) _ laid.places numbers) in
+      sound_part (place_area d) (8 * k) 16 (length image / 4096) image laid.payload (omega arith) (omega (arith, all, lt)) laid.sound
+
+  record_sound : (from n : ℕ) → 0 < n → from + n ≤ length (records_of ts) → part_at (record_area d) from n image ≡ Ok (part_of (record_area d) from n image)
+  record_sound from n some le =
+      let all = area_within (record_area d) (length (records_of ts)) image (omega arith) (long_enough (length (records_of ts)) (area_bytes (record_area d) image) _ laid.records refl) in
+      sound_part (record_area d) from n (length image / 4096) image laid.payload some (omega (arith, all, le)) laid.sound
+
   record_is : (k : ℕ) (t : Term) → slice_get ts k ≡ Some t → part_of (record_area d) (length (records_of (take k ts))) (length (record_of t)) image ≡ record_of t
   record_is k t at =
       let from = length (records_of (take k ts)) in
@@ -118,7 +139,8 @@ module _ (d : Dict) (ts : List Term) (image : List ℕ) (laid : IsLaidOut d ts i
       let end = from + length (record_of t) in
       let first : record_place d k image ≡ from = place_is k (omega (arith, inside ts k t at)) in
       let second : record_place d (k + 1) image ≡ end = ap (λ j. record_place d j image) (omega arith) ∙ place_is (suc k) (omega (arith, inside ts k t at)) ∙ next ts k t at in
-      ap (λ a. span_of d k a (record_place d (k + 1) image)) first ∙ ap (span_of d k from) second
+      ap (span_from d k) (pair_sound d k image (place_sound k (inside ts k t at)))
+      ∙ ap (λ a. span_of d k a (record_place d (k + 1) image)) first ∙ ap (span_of d k from) second
       ∙ span_ok d k from end (λ e. ap (λ j. length (records_of (take j ts))) e) (omega (arith, some_bytes t)) (omega (arith, laid.bytes, next ts k t at, within ts (suc k)))
 
   each_is : (k : ℕ) (t : Term) → slice_get ts k ≡ Some t → stored_term d k image ≡ Ok t
@@ -127,7 +149,8 @@ module _ (d : Dict) (ts : List Term) (image : List ℕ) (laid : IsLaidOut d ts i
       let end = from + length (record_of t) in
       let long : end - from ≡ length (record_of t) = omega arith in
       let bytes : part_of (record_area d) from (end - from) image ≡ record_of t = ap (λ n. part_of (record_area d) from n image) long ∙ record_is k t at in
-      ap (λ s. record_in d s image) (span_is k t at) ∙ ap (λ b. or_block (block_of (record_area d) from) (term_in b)) bytes ∙ ap (or_block (block_of (record_area d) from)) (term_back t (laid.each k t at))
+      let sound = record_sound from (end - from) (omega (arith, some_bytes t)) (omega (arith, next ts k t at, within ts (suc k))) in
+      ap (λ s. record_in d s image) (span_is k t at) ∙ ap (term_from (block_of (record_area d) from)) sound ∙ ap (λ b. or_blame (block_of (record_area d) from) (term_in b)) bytes ∙ ap (or_blame (block_of (record_area d) from)) (term_back t (laid.each k t at))
 
   pub laid_out_holds : HoldsTerms d ts image
   laid_out_holds = record { sorted = laid.sorted; terms = laid.terms; each = each_is }

@@ -9,3 +9,5 @@ pub mod Layouts
 pub mod Halves
 pub mod Fronts
 pub mod Behind
+pub mod Faults
+pub mod Ties

@@ -1,12 +1,13 @@
 -- The texts that a record spells, whether they are UTF-8 or not.
-use Rattle.std.proofs.Common.{◌≡◌, ℕ, [], ◌∷◌, ◌-◌, List, Option, Result, Some, None, Ok, Err, Bool, true, false, ap}
+use Rattle.std.proofs.Common.{◌≡◌, ℕ, [], ◌∷◌, ◌-◌, List, Option, Result, Some, None, Ok, Err, Bool, true, false, refl, ap, ◌∙◌}
 use Rattle.std.specs.Prelude.{if◌then◌else◌, ◌==◌}
 use Rattle.std.specs.Str.{is_utf8}
 use Rattle.term_core.specs.declared.term.Term.{Term}
 use Rattle.term_core.specs.declared.term.Term.TheVariants.{Iri, Blank}
 use Rattle.term_dict.specs.declared.dict.Dict.{Dict}
-use Rattle.sage_outside.specs.Areas.{part_of}
-use Rattle.term_dict.specs.Layout.{record_area, span_at, or_block, record_in, raw_record_in, stored_term, raw_at}
+use Rattle.sage_outside.specs.Areas.{part_at, block_of}
+use Rattle.sage_outside.proofs.Joins.{part_ok}
+use Rattle.term_dict.specs.Layout.{record_area, span_at, or_blame, term_from, record_in, raw_record_in, stored_term, raw_at}
 use Rattle.term_dict.specs.Records.{◌>>=◌, text_in, number_front, cut_at, literal_in, raw_literal_at, term_in, raw_in}
 
 -- where a step gives something, what goes on from it does
@@ -41,12 +42,20 @@ pub raw_of : (bytes : List ℕ) (u : Term) → term_in bytes ≡ Some u → raw_
 raw_of [] u e = cc
 raw_of (kind ∷ rest) u e = raw_kind (kind == 0) (kind == 1) (kind == 2) rest u e
 
-pub or_raw : (block : ℕ) (o p : Option Term) (u : Term) → (o ≡ Some u → p ≡ Some u) → or_block block o ≡ Ok u → or_block block p ≡ Ok u
+pub or_raw : (block : ℕ) (o p : Option Term) (u : Term) → (o ≡ Some u → p ≡ Some u) → or_blame block o ≡ Ok u → or_blame block p ≡ Ok u
 or_raw block None p u more e = cc
-or_raw block (Some t) p u more e = let same : t ≡ u = cc in ap (or_block block) (more (ap Some same))
+or_raw block (Some t) p u more e = let same : t ≡ u = cc in ap (or_blame block) (more (ap Some same))
+
+term_read : (b : ℕ) (r : Result (List ℕ) ℕ) (u : Term) → term_from b r ≡ Ok u → (bytes : List ℕ) × (r ≡ Ok bytes) × (or_blame b (term_in bytes) ≡ Ok u)
+term_read b (Ok bytes) u e = (bytes, refl, e)
+term_read b (Err c) u e = cc
 
 in_record : (d : Dict) (span : Result (ℕ × ℕ) ℕ) (image : List ℕ) (u : Term) → record_in d span image ≡ Ok u → raw_record_in d span image ≡ Ok u
-in_record d (Ok span) image u e = or_raw _ _ _ u (raw_of (part_of (record_area d) span.0 (span.1 - span.0) image) u) e
+in_record d (Ok span) image u e =
+    let b = block_of (record_area d) span.0 in
+    let got = term_read b (part_at (record_area d) span.0 (span.1 - span.0) image) u e in
+    ap (λ xs. or_blame b (raw_in xs)) (part_ok (record_area d) span.0 (span.1 - span.0) image got.0 got.1).1
+    ∙ or_raw b (term_in got.0) (raw_in got.0) u (raw_of got.0 u) got.2
 in_record d (Err block) image u e = cc
 
 -- a record that is read as a term spells its texts

@@ -1,10 +1,12 @@
 -- The places and records of a list of terms, and an image that has them.
-use Rattle.std.specs.Prelude.{◌≡◌, ℕ, ◌+◌, ◌*◌, ◌<◌, ◌≤◌, ◌^◌, max, List, [], ◌∷◌, length, take, Some, slice_get, flat_map, IsUtf8}
+use Rattle.std.specs.Prelude.{◌≡◌, ℕ, ◌+◌, ◌*◌, ◌/◌, ◌<◌, ◌≤◌, ◌^◌, max, true, List, [], ◌∷◌, length, take, Some, slice_get, flat_map, IsUtf8}
 use Rattle.std.specs.Int.{w64, to_be_bytes}
 use Rattle.std.specs.List.Sorted.{IsStrictlySortedBy}
 use Rattle.term_core.specs.declared.term.Term.{Term}
 use Rattle.term_core.specs.Order.{term_cmp, text_of, datatype_of, lang_of, size_of}
 use Rattle.term_dict.specs.declared.dict.Dict.{Dict}
+use Rattle.sage_outside.specs.Blocks.{block_at}
+use Rattle.sage_outside.specs.Parts.{IsPayload, is_sound}
 use Rattle.sage_outside.specs.Areas.{area_bytes}
 use Rattle.term_dict.specs.Layout.{place_area, record_area}
 use Rattle.term_dict.specs.Records.{record_of}
@@ -39,12 +41,15 @@ AreTexts ts = (k : ℕ) (t : Term) → slice_get ts k ≡ Some t → IsText t
 abbrev pub AreShort : List Term → Type 0
 AreShort ts = (k : ℕ) (t : Term) → slice_get ts k ≡ Some t → size_of t ≤ 262144
 
--- the image has the places and the records of these terms, in their order, at the beginnings of its two areas
+-- the image has the places and the records of these terms, in their order, at the beginnings of its two areas, and the
+-- tags of its blocks agree
 pub record IsLaidOut (d : Dict) (ts : List Term) (image : List ℕ) : Type 0 where
   pub sorted : IsStrictlySortedBy term_cmp ts
   pub terms : d.terms ≡ length ts
   pub bytes : length (records_of ts) ≤ d.bytes
   pub fits : d.bytes < 2 ^ 64
+  pub payload : IsPayload d.payload
+  pub sound : (n : ℕ) → n < length image / 4096 → is_sound d.payload n (block_at n image) ≡ true
   pub places : take (8 * (length ts + 1)) (area_bytes (place_area d) image)
       ≡ flat_map (to_be_bytes w64) (places_from 0 ts)
   pub records : take (length (records_of ts)) (area_bytes (record_area d) image) ≡ records_of ts

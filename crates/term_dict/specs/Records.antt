@@ -5,6 +5,8 @@ use Rattle.std.specs.Int.{w32, to_be_bytes, from_be_bytes}
 use Rattle.std.specs.Str.{is_utf8}
 use Rattle.term_core.specs.declared.term.Term.{Term}
 use Rattle.term_core.specs.declared.term.Term.TheVariants as terms
+use Rattle.term_core.specs.Order.{term_cmp}
+use Rattle.std.specs.declared.cmp.Ordering.{Ordering}
 use Rattle.term_dict.specs.declared.record.RecordFault.{RecordFault}
 use Rattle.term_dict.specs.declared.record.RecordFault.TheVariants as faults
 
@@ -74,3 +76,8 @@ raw_in [] = None
 raw_in (kind ∷ rest) =
     if kind == 0 then Some (terms.Blank rest) else if kind == 1 then Some (terms.Iri rest)
     else if kind == 2 then raw_literal_at rest else None
+
+-- how the texts that bytes spell stand to a term
+abbrev pub raw_order : Term → Option Term → Option Ordering
+raw_order t (Some u) = Some (term_cmp u t)
+raw_order t None = None

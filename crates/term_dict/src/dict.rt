@@ -1,16 +1,17 @@
 // Terms by their ranks.
-ghost use Rattle.std.specs.Prelude.{◌≡◌, ◌<◌, ◌≤◌, ◌+◌, ◌-◌, ◌*◌, ◌/◌, ◌^◌, ◌↔◌, ℕ, List, Some, IsTrue, OnErr, IfOk, slice_get, length};
+ghost use Rattle.std.specs.Prelude.{◌≡◌, ◌<◌, ◌≤◌, ◌+◌, ◌-◌, ◌*◌, ◌/◌, ◌^◌, ◌↔◌, ℕ, List, Some, IsTrue, Err, IfOk, slice_get, length};
 ghost use Rattle.std.specs.declared.cmp.Ordering.{Ordering};
 ghost use Rattle.sage_outside.specs.Causes.{Rose};
 ghost use Rattle.sage_outside.specs.Blocks.{HasRead, Tells};
+ghost use Rattle.sage_outside.specs.Parts.{Reads};
 ghost use Rattle.term_core.specs.declared.term.Term.{Term};
-ghost use Rattle.sage_outside.specs.Areas.{part_of, block_of, touched};
-ghost use Rattle.term_dict.specs.Layout.{place_area, record_area, record_place, span_of, span_at, span_length, stored_term, or_block, longest_record, DictLies, DictStands, ReadsImage};
+ghost use Rattle.sage_outside.specs.Areas.{part_at, block_of, touched};
+ghost use Rattle.term_dict.specs.Layout.{place_area, record_area, pair_at, span_of, span_at, span_length, stored_term, or_blame, longest_record, DictLies, DictStands, ReadsImage};
 ghost use Rattle.term_dict.specs.Ranks.{HoldsTerms};
 ghost use Rattle.term_dict.specs.Records.{term_in};
 
 use crate::record::{RecordFault, term_of};
-use sage_outside::{Area, Blocks, Failed, StoreFault, block_of, read_area};
+use sage_outside::{Area, Blocks, ReadFault, StoreFault, block_of, read_area};
 use std::alloc::Global;
 use term_core::Term;
 
@@ -53,7 +54,7 @@ impl Dict {
         }
     }
 
-    fn record_area(&self) -> Area
+    pub(crate) fn record_area(&self) -> Area
         ensures { result ≡ record_area self.now }
     {
         Area {
@@ -63,13 +64,14 @@ impl Dict {
     }
 
     /// Numbers `k` and `k + 1`, as they stand in the blocks.
-    fn place_pair<B: Blocks>(&self, blocks: &mut B, k: u32) -> Result<(u64, u64), Failed>
+    fn place_pair<B: Blocks>(&self, blocks: &mut B, k: u32) -> Result<(u64, u64), ReadFault>
         requires stands { DictStands self.now (B.device blocks.old).count }
         requires within { k < self.now.terms }
         ensures read { HasRead (B.device blocks.old) (B.device blocks.new) 2 }
-        ensures failed { OnErr result (Rose (B.device blocks.old).faults (B.device blocks.new).faults) }
+        ensures failed { result ≡ Err ReadFault.Blocks
+            → Rose (B.device blocks.old).faults (B.device blocks.new).faults }
         ensures found { (image : List ℕ) → Tells (B.device blocks.old).image image
-            → IfOk result (λ x. (x.0 ≡ record_place self.now k image) × (x.1 ≡ record_place self.now (k + 1) image)) }
+            → Reads (λ x. (x.0, x.1)) result (pair_at self.now k image) }
     {
         let mut bytes = [0; 16];
         let mut from = [0; 8];
@@ -124,8 +126,10 @@ impl Dict {
             → ReadsImage (λ x. (x.0, x.1)) result (span_at self.now k image) }
         ensures rises { IfOk result (λ x. (x.0 ≤ x.1) × (x.1 ≤ self.now.bytes)) }
     {
-        let (from, end) = self.place_pair(blocks, k)?;
-        self.risen(k, from, end)
+        match self.place_pair(blocks, k) {
+            Err(fault) => Err(StoreFault::from(fault)),
+            Ok((from, end)) => self.risen(k, from, end),
+        }
     }
 
     /// So many bytes of the records from the place `from` on.
@@ -142,16 +146,15 @@ impl Dict {
         ensures failed { result ≡ Err StoreFault.Blocks
             → Rose (B.device blocks.old).faults (B.device blocks.new).faults }
         ensures found { (image : List ℕ) → Tells (B.device blocks.old).image image
-            → IfOk result (λ x. x.items ≡ part_of (record_area self.now) from count image) }
+            → ReadsImage (λ x. x.items) result (part_at (record_area self.now) from count image) }
         ensures full { IfOk result (λ x. length x.items ≡ count) }
-        ensures whole { (block : ℕ) → result ≡ Err (StoreFault.Damaged block) → ⊥ }
     {
         match vec![in alloc; 0u8; count as usize] {
             Err(_) => Err(StoreFault::Memory),
             Ok(bytes) => {
                 let mut bytes = bytes;
                 match read_area(blocks, &self.record_area(), from, bytes.as_mut_slice()) {
-                    Err(_) => Err(StoreFault::Blocks),
+                    Err(fault) => Err(StoreFault::from(fault)),
                     Ok(()) => Ok(bytes),
                 }
             }
@@ -162,7 +165,7 @@ impl Dict {
     pub(crate) fn decoded(&self, alloc: Global, bytes: &[u8], from: u64) -> Result<Term, StoreFault>
         requires some { 0 < self.now.payload }
         requires fits { block_of (record_area self.now) from ≤ u32.MAX }
-        ensures read { ReadsImage (λ t. t) result (or_block (block_of (record_area self.now) from) (term_in bytes.now)) }
+        ensures read { ReadsImage (λ t. t) result (or_blame (block_of (record_area self.now) from) (term_in bytes.now)) }
         ensures own { result ≡ Err StoreFault.Blocks → ⊥ }
     {
         match term_of(alloc, bytes) {
@@ -199,7 +202,8 @@ impl Dict {
     /// The term of that rank. Memory is taken for the record and for the term.
     ///
     /// `Damaged` comes exactly where the two numbers of the record or the record are not well
-    /// formed, and names the block in which the broken one begins. `Blocks` comes only where a
+    /// formed, and names the block in which the broken one begins, or where the tag of a block that
+    /// holds a part of them does not agree, and names that block. `Blocks` comes only where a
     /// read failed. At most two blocks are read for the numbers, and each block of the record once.
     pub fn term<B: Blocks>(
         &self,

@@ -4,6 +4,7 @@ ghost use Rattle.term_core.specs.Order.{rank_of, text_of};
 ghost use Rattle.term_dict.specs.Records.{Decodes};
 ghost use Rattle.term_dict.specs.Fronts.{lexical_at, front_at, IsDecided};
 
+use crate::comparison::parts_of;
 use crate::record::{RecordFault, cut, number_of};
 use std::cmp::Ordering;
 use term_core::Term;
@@ -38,18 +39,6 @@ fn beginning_of(front: &[u8]) -> Result<(u8, &[u8]), RecordFault>
                 Err(RecordFault::Form)
             }
         }
-    }
-}
-
-/// The kind of a term's record, and its text.
-fn parts_of(t: &Term) -> (u8, &[u8])
-    ensures kind { result.0 ≡ rank_of t.now }
-    ensures text { result.1.now ≡ text_of t.now }
-{
-    match t {
-        Term::Blank(label) => (0, label.bytes()),
-        Term::Iri(iri) => (1, iri.bytes()),
-        Term::Literal { lexical, .. } => (2, lexical.bytes()),
     }
 }
 

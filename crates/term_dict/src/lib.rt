@@ -1,6 +1,7 @@
 //! A dictionary of terms over blocks: each term by its rank in the order, and the rank of a term.
 #![tactic(auto)]
 
+mod comparison;
 mod dict;
 mod dict_image;
 mod front;

@@ -1,18 +1,19 @@
 // How the term of a record stands to a term.
-ghost use Rattle.std.specs.Prelude.{◌≡◌, ◌<◌, ◌≤◌, ◌+◌, ◌-◌, ◌/◌, ℕ, List, Ok, IfOk, length};
+ghost use Rattle.std.specs.Prelude.{◌≡◌, ◌<◌, ◌≤◌, ◌+◌, ◌-◌, ◌*◌, ◌/◌, ◌%◌, ℕ, List, Ok, length};
 ghost use Rattle.sage_outside.specs.Causes.{Rose};
 ghost use Rattle.sage_outside.specs.Blocks.{HasRead, Tells};
-ghost use Rattle.sage_outside.specs.Areas.{part_of, touched, block_of};
-ghost use Rattle.term_dict.specs.Layout.{record_area, or_block, record_in, raw_record_in, stored_term, raw_at, span_at, span_length, DictStands};
+ghost use Rattle.sage_outside.specs.Areas.{part_at, touched, block_of};
+ghost use Rattle.term_dict.specs.Layout.{record_area, or_blame, record_in, raw_record_in, stored_term, raw_at, span_at, span_length, DictStands, ReadsImage};
 ghost use Rattle.term_dict.specs.Ranks.{Compares};
 ghost use Rattle.term_dict.specs.Records.{term_in, raw_in};
 
 use crate::Dict;
+use crate::comparison::order_of_record;
 use crate::front::order_of_front;
-use sage_outside::{Blocks, StoreFault};
+use sage_outside::{Blocks, StoreFault, block_of};
 use std::alloc::Global;
 use std::cmp::Ordering;
-use term_core::{Term, compare};
+use term_core::Term;
 
 impl Dict {
     /// The record of which `front` was read, with the bytes behind it.
@@ -25,16 +26,16 @@ impl Dict {
         count: u64,
     ) -> Result<Vec<u8>, StoreFault>
         requires stands { DictStands self.now (B.device blocks.old).count }
-        requires front { length front.items ≤ count }
+        requires front { length front.items ≡ 2 * self.now.payload - from % self.now.payload }
+        requires behind { length front.items < count }
         requires within { from + count ≤ self.now.bytes }
         ensures read { HasRead (B.device blocks.old) (B.device blocks.new)
             (touched self.now.payload (from + length front.items) (count - length front.items)) }
         ensures failed { result ≡ Err StoreFault.Blocks
             → Rose (B.device blocks.old).faults (B.device blocks.new).faults }
         ensures found { (image : List ℕ) → Tells (B.device blocks.old).image image
-            → front.items ≡ part_of (record_area self.now) from (length front.items) image
-            → IfOk result (λ x. x.items ≡ part_of (record_area self.now) from count image) }
-        ensures whole { (block : ℕ) → result ≡ Err (StoreFault.Damaged block) → ⊥ }
+            → part_at (record_area self.now) from (length front.items) image ≡ Ok front.items
+            → ReadsImage (λ x. x.items) result (part_at (record_area self.now) from count image) }
     {
         let near = front.len() as u64;
         let rest = self.record(alloc, blocks, from + near, count - near)?;
@@ -45,24 +46,20 @@ impl Dict {
         }
     }
 
-    /// How the term that the record with these bytes spells stands to `t`. The record begins at the
-    /// place `from`.
-    fn order_in(
-        &self,
-        alloc: Global,
-        bytes: &[u8],
-        from: u64,
-        t: &Term,
-    ) -> Result<Ordering, StoreFault>
+    /// How the texts that the record with these bytes spells stand to `t`. The record begins at the
+    /// place `from`. Nothing is decoded, and no memory taken.
+    fn order_in(&self, bytes: &[u8], from: u64, t: &Term) -> Result<Ordering, StoreFault>
         requires some { 0 < self.now.payload }
         requires fits { block_of (record_area self.now) from ≤ u32.MAX }
-        ensures found { Compares t.now result (or_block (block_of (record_area self.now) from) (raw_in bytes.now))
-            (or_block (block_of (record_area self.now) from) (term_in bytes.now)) }
+        ensures found { Compares t.now result (or_blame (block_of (record_area self.now) from) (raw_in bytes.now))
+            (or_blame (block_of (record_area self.now) from) (term_in bytes.now)) }
         ensures own { result ≡ Err StoreFault.Blocks → ⊥ }
     {
-        match self.decoded(alloc, bytes, from) {
-            Err(fault) => Err(fault),
-            Ok(kept) => Ok(compare(&kept, t)),
+        match order_of_record(bytes, t) {
+            Some(order) => Ok(order),
+            None => Err(StoreFault::Damaged {
+                block: block_of(&self.record_area(), from),
+            }),
         }
     }
 
@@ -77,14 +74,15 @@ impl Dict {
         t: &Term,
     ) -> Result<Ordering, StoreFault>
         requires stands { DictStands self.now (B.device blocks.old).count }
-        requires front { length front.items < count }
+        requires front { length front.items ≡ 2 * self.now.payload - from % self.now.payload }
+        requires behind { length front.items < count }
         requires within { from + count ≤ self.now.bytes }
         ensures read { HasRead (B.device blocks.old) (B.device blocks.new)
             (touched self.now.payload (from + length front.items) (count - length front.items)) }
         ensures failed { result ≡ Err StoreFault.Blocks
             → Rose (B.device blocks.old).faults (B.device blocks.new).faults }
         ensures found { (image : List ℕ) → Tells (B.device blocks.old).image image
-            → front.items ≡ part_of (record_area self.now) from (length front.items) image
+            → part_at (record_area self.now) from (length front.items) image ≡ Ok front.items
             → Compares t.now result (raw_record_in self.now (Ok (from, from + count)) image)
             (record_in self.now (Ok (from, from + count)) image) }
     {
@@ -92,7 +90,7 @@ impl Dict {
             Some(order) => Ok(order),
             None => {
                 let bytes = self.record_behind(alloc, blocks, front, from, count)?;
-                self.order_in(alloc, bytes.as_slice(), from, t)
+                self.order_in(bytes.as_slice(), from, t)
             }
         }
     }
@@ -123,7 +121,7 @@ impl Dict {
         if near < end - from {
             self.order_behind(alloc, blocks, front, from, end - from, t)
         } else {
-            self.order_in(alloc, front.as_slice(), from, t)
+            self.order_in(front.as_slice(), from, t)
         }
     }
 

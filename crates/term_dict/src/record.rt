@@ -1,5 +1,5 @@
 // A record's bytes as a term.
-ghost use Rattle.std.specs.Prelude.{◌≡◌, ℕ, List};
+ghost use Rattle.std.specs.Prelude.{◌≡◌, ℕ, List, Err};
 ghost use Rattle.term_dict.specs.Records.{Decodes, text_in, number_front, cut_at, literal_in, term_in};
 
 use std::alloc::Global;
@@ -28,7 +28,8 @@ fn text_of(alloc: Global, bytes: &[u8]) -> Result<Text, RecordFault>
 /// A number of four bytes, and what is behind it.
 #[tactic(auto, unfolding(crate::specs::Records::number_front))]
 pub fn number_of(bytes: &[u8]) -> Result<(u32, &[u8]), RecordFault>
-    ensures { Decodes (λ x. (x.0, x.1.now)) result (number_front bytes.now) }
+    ensures read { Decodes (λ x. (x.0, x.1.now)) result (number_front bytes.now) }
+    ensures own { result ≡ Err RecordFault.Memory → ⊥ }
 {
     match bytes {
         [a, b, c, d, rest @ ..] => Ok((u32::from_be_bytes([*a, *b, *c, *d]), rest)),
@@ -42,7 +43,8 @@ pub fn number_of(bytes: &[u8]) -> Result<(u32, &[u8]), RecordFault>
 /// So many bytes, and what is behind them.
 #[tactic(auto, unfolding(crate::specs::Records::cut_at))]
 pub fn cut(count: u32, bytes: &[u8]) -> Result<(&[u8], &[u8]), RecordFault>
-    ensures { Decodes (λ x. (x.0.now, x.1.now)) result (cut_at count bytes.now) }
+    ensures read { Decodes (λ x. (x.0.now, x.1.now)) result (cut_at count bytes.now) }
+    ensures own { result ≡ Err RecordFault.Memory → ⊥ }
 {
     if bytes.len() < count as usize {
         Err(RecordFault::Form)

@@ -55,11 +55,11 @@ impl Dict {
         Ok(None)
     }
 
-    /// The rank of the term, or `None` where it is not there. Memory is taken for one record and
-    /// one term at a time.
+    /// The rank of the term, or `None` where it is not there. Memory is taken for the bytes of one
+    /// record at a time; none is decoded.
     ///
     /// `Damaged` names the block in which a broken number or record begins that the search came
-    /// upon. `Blocks` comes only where a read failed. Each block of a record that the search comes
+    /// upon, or a block of them whose tag does not agree. `Blocks` comes only where a read failed. Each block of a record that the search comes
     /// upon is read once, and what is behind its first two only where they do not decide.
     pub fn id_of<B: Blocks>(
         &self,

@@ -3,7 +3,7 @@ use Rattle.term_dict.specs.Layout.{longest_record}
 use Rattle.sage_outside.proofs.Answered.{still}
 use Rattle.term_dict.proofs.Held.{no_longer}
 use Rattle.term_dict.proofs.Ranks.{place_is_rank}
-use Rattle.sage_outside.proofs.Halves.{halved}
+use Rattle.term_dict.proofs.Halves.{halved}
 use Rattle.term_dict.proofs.Halves.{narrow_less, narrow_greater, nowhere, ended, few_steps, cost_step, compared_here, compared_held, lower_here, tie_at, damaged_at, few_more, four_more}
 use Rattle.term_core.specs.OrderLaws.{same_terms}
 use Rattle.term_dict.proofs.dict.Dict.rank_of.Goals.{in-Less, in-Greater}
