@@ -1,4 +1,6 @@
 pub mod Padding
+pub mod Payloads
+pub mod Moves
 pub mod Areas
 pub mod Sizes
 pub mod Headers
@@ -12,4 +14,3 @@ pub mod TableRanks
 pub mod SlotTies
 pub mod Keys
 pub mod Sets
-pub mod Written

@@ -1,89 +1,102 @@
--- Bytes in whole blocks with zeros behind them, and what stands before and behind them.
-use Rattle.std.proofs.Common.{◌≡◌, ℕ, zero, suc, ◌+◌, ◌-◌, ◌*◌, ◌%◌, ◌<◌, ◌≤◌, ◌++◌, List, [], ◌∷◌, length, take, drop, replicate, refl, sym, ap, ◌∙◌, ⊎_elim, arith, append_assoc, length-append, length-take, length-drop}
-use Rattle.std.proofs.lemmas.List.{take_at, take-append-drop, length-replicate, append-nil}
-use Rattle.std.proofs.lemmas.Bool.{cases_lt}
-use Rattle.sage_outside.specs.Areas.{payloads}
-use Rattle.sage_outside.proofs.Parts.{joined}
-use Rattle.btree_build.specs.Lists.{block_with, in_blocks}
-use Rattle.store_image.specs.Image.{blocks_of, padded}
+-- Bytes with zeros behind them up to the end of a payload.
+use Rattle.std.proofs.Common.{◌≡◌, ℕ, ◌+◌, ◌-◌, ◌*◌, ◌/◌, ◌%◌, ◌^◌, ◌<◌, ◌≤◌, inl, inr, ◌++◌, List, length, take, replicate, refl, ap, ◌∙◌, arith, append_assoc, length-append, Bool, true, false}
+use Rattle.std.specs.Prelude.{◌==◌, if◌then◌else◌}
+use Rattle.std.proofs.lemmas.List.{take_at, length-replicate}
+use Rattle.sage_outside.specs.Parts.{IsPayload}
+use Rattle.btree_build.specs.Trees.{blocks_for}
+use Rattle.store_image.specs.Format.{payload_of, padded}
 
-pub length_padded : (bytes : List ℕ) → length (padded bytes) ≡ 4096 * blocks_of (length bytes)
-unfolding padded
-length_padded bytes =
-    omega (arith, length-append bytes (replicate (4096 * blocks_of (length bytes) - length bytes) 0), length-replicate {A = ℕ} (4096 * blocks_of (length bytes) - length bytes) 0)
+-- each format has a payload
+pub payload_is : (format : ℕ) → IsPayload (payload_of format)
+unfolding payload_of
+payload_is format = either (format == 1)
+  where
+    either : (b : Bool) → IsPayload (if b then 4096 else 4080)
+    either true = record { one = inl refl }
+    either false = record { one = inr refl }
 
-pub take_padded : (bytes behind : List ℕ) → take (length bytes) (padded bytes ++ behind) ≡ bytes
-unfolding padded
-take_padded bytes behind =
-    let zeros = replicate (4096 * blocks_of (length bytes) - length bytes) 0 in
-    ap (take (length bytes)) (append_assoc bytes zeros behind) ∙ take_at bytes (zeros ++ behind) (length bytes) refl
+-- the other payload
+pub payload_short : (p : ℕ) → IsPayload p → (p ≡ 4096 → ⊥) → p ≡ 4080
+payload_short p payload other = elim payload.one [ inl e ↦ absurd (other e) | inr e ↦ e ]
 
--- what begins at a multiple of 4,096 stays whole when zeros are put behind all
-pub padded_behind : (front bytes : List ℕ) → length front % 4096 ≡ 0 → padded (front ++ bytes) ≡ front ++ padded bytes
-unfolding padded
-padded_behind front bytes whole =
-    let long : length (front ++ bytes) ≡ length front + length bytes = length-append front bytes in
-    let zeros : 4096 * blocks_of (length (front ++ bytes)) - length (front ++ bytes) ≡ 4096 * blocks_of (length bytes) - length bytes = omega arith in
-    ap (λ n. (front ++ bytes) ++ replicate n 0) zeros ∙ append_assoc front bytes (replicate (4096 * blocks_of (length bytes) - length bytes) 0)
+pub gap_whole : (n : ℕ) → 4096 * ((n + 4095) / 4096) - n ≡ 4096 * blocks_for 4096 n - n
+unfolding blocks_for
+gap_whole n = refl
 
--- whole blocks keep all of their bytes
-pub payloads_whole : (n : ℕ) (bytes : List ℕ) → payloads 4096 n bytes ≡ take (4096 * n) bytes
-payloads_whole zero bytes = refl
-payloads_whole (suc n) bytes =
-    let more : 4096 + 4096 * n ≡ 4096 * suc n = omega arith in
-    ap (λ l. take 4096 bytes ++ l) (payloads_whole n (drop 4096 bytes)) ∙ joined 4096 (4096 * n) bytes ∙ ap (λ k. take k bytes) more
+pub gap_short : (n : ℕ) → 4080 * ((n + 4079) / 4080) - n ≡ 4080 * blocks_for 4080 n - n
+unfolding blocks_for
+gap_short n = refl
 
-no_bytes : (bytes : List ℕ) → length bytes ≡ 0 → bytes ≡ []
-no_bytes [] h = refl
-no_bytes (b ∷ bytes) h = absurd (omega arith)
+module _ (p : ℕ) (payload : IsPayload p) where
+  pub payload_small : p ≤ 4096
+  payload_small = elim payload.one [ inl e ↦ rw e (omega arith) | inr e ↦ rw e (omega arith) ]
 
-all_of : (n : ℕ) (xs : List ℕ) → length xs ≤ n → take n xs ≡ xs
-all_of zero [] le = refl
-all_of (suc n) [] le = refl
-all_of zero (x ∷ xs) le = absurd (omega arith)
-all_of (suc n) (x ∷ xs) le = ap (λ l. x ∷ l) (all_of n xs (omega arith))
+  pub payload_some : 0 < p
+  payload_some = elim payload.one [ inl e ↦ rw e (omega arith) | inr e ↦ rw e (omega arith) ]
 
--- the last block, which may have zeros behind its bytes
-last_block : (bytes : List ℕ) → length bytes ≤ 4096 → 0 < length bytes → block_with 4096 bytes ++ in_blocks 4096 0 (drop 4096 bytes) ≡ padded bytes
-unfolding padded
-last_block bytes le some =
-    let all : take 4096 bytes ≡ bytes = all_of 4096 bytes le in
-    let zeros : 4096 - length bytes ≡ 4096 * blocks_of (length bytes) - length bytes = omega arith in
-    append-nil (block_with 4096 bytes) ∙ ap (λ l. l ++ replicate (4096 - length l) 0) all ∙ ap (λ n. bytes ++ replicate n 0) zeros
+  -- payloads have room for the bytes that begin them
+  pub room_for : (n : ℕ) → n ≤ p * blocks_for p n
+  unfolding blocks_for
+  room_for n = elim payload.one [ inl e ↦ rw e (omega arith) | inr e ↦ rw e (omega arith) ]
 
--- a full block, and what stands behind it
-full_block : (bytes : List ℕ) → 4096 < length bytes → block_with 4096 bytes ++ padded (drop 4096 bytes) ≡ padded bytes
-unfolding padded
-full_block bytes lt =
-    let front = take 4096 bytes in
-    let back = drop 4096 bytes in
-    let long : length front ≡ 4096 = omega (arith, length-take 4096 bytes) in
-    let left : length back ≡ length bytes - 4096 = length-drop 4096 bytes in
-    let none : 4096 - length front ≡ 0 = omega arith in
-    let zeros : 4096 * blocks_of (length back) - length back ≡ 4096 * blocks_of (length bytes) - length bytes = omega arith in
-    ap (λ n. (front ++ replicate n 0) ++ (back ++ replicate (4096 * blocks_of (length back) - length back) 0)) none
-    ∙ ap (λ l. l ++ (back ++ replicate (4096 * blocks_of (length back) - length back) 0)) (append-nil front)
-    ∙ sym (append_assoc front back (replicate (4096 * blocks_of (length back) - length back) 0))
-    ∙ ap (λ l. l ++ replicate (4096 * blocks_of (length back) - length back) 0) (take-append-drop 4096 bytes)
-    ∙ ap (λ n. bytes ++ replicate n 0) zeros
+  whole_times : (n : ℕ) → (p * n) % p ≡ 0
+  whole_times n = elim payload.one [ inl e ↦ rw e (omega arith) | inr e ↦ rw e (omega arith) ]
 
-padded_nothing : padded [] ≡ []
-unfolding padded
-padded_nothing = refl
+  pub times_over : (n : ℕ) → (p * n) / p ≡ n
+  times_over n = elim payload.one [ inl e ↦ rw e (omega arith) | inr e ↦ rw e (omega arith) ]
 
--- blocks that keep all of their bytes are the bytes with zeros behind
-pub in_blocks_padded : (n : ℕ) (bytes : List ℕ) → blocks_of (length bytes) ≡ n → in_blocks 4096 n bytes ≡ padded bytes
-in_blocks_padded zero bytes h =
-    let none : bytes ≡ [] = no_bytes bytes (omega arith) in
-    sym (ap padded none ∙ padded_nothing)
-in_blocks_padded (suc n) bytes h = ⊎_elim
-    (λ more. ap (λ l. block_with 4096 bytes ++ l) (in_blocks_padded n (drop 4096 bytes) (omega (arith, length-drop 4096 bytes))) ∙ full_block bytes more)
-    (λ le. let last : n ≡ 0 = omega arith in ap (λ k. block_with 4096 bytes ++ in_blocks 4096 k (drop 4096 bytes)) last ∙ last_block bytes le (omega arith))
-    (cases_lt 4096 (length bytes))
+  pub over_times : (n : ℕ) → n % p ≡ 0 → p * (n / p) ≡ n
+  over_times n h = elim payload.one [ inl e ↦ let i = rw e at h in rw e (omega (arith, i)) | inr e ↦ let i = rw e at h in rw e (omega (arith, i)) ]
 
--- what is put behind whole blocks and filled up is put as whole blocks
-pub padded_put : (old bytes mid new : List ℕ) → length old % 4096 ≡ 0 → mid ≡ old ++ bytes → new ≡ padded mid → new ≡ old ++ padded bytes
-padded_put old bytes mid new whole put filled = filled ∙ ap padded put ∙ padded_behind old bytes whole
+  gap_behind : (m n : ℕ) → m % p ≡ 0 → p * blocks_for p (m + n) - (m + n) ≡ p * blocks_for p n - n
+  unfolding blocks_for
+  gap_behind m n h = elim payload.one [ inl e ↦ let i = rw e at h in rw e (omega (arith, i)) | inr e ↦ let i = rw e at h in rw e (omega (arith, i)) ]
 
-pub whole_padded : (bytes new : List ℕ) → new ≡ padded bytes → length new % 4096 ≡ 0
-whole_padded bytes new e = omega (arith, ap length e, length_padded bytes)
+  pub length_padded : (bytes : List ℕ) → length (padded p bytes) ≡ p * blocks_for p (length bytes)
+  unfolding padded
+  length_padded bytes =
+      let zeros = p * blocks_for p (length bytes) - length bytes in
+      omega (arith, length-append bytes (replicate zeros 0), length-replicate {A = ℕ} zeros 0, room_for (length bytes))
+
+  pub take_padded : (bytes behind : List ℕ) → take (length bytes) (padded p bytes ++ behind) ≡ bytes
+  unfolding padded
+  take_padded bytes behind =
+      let zeros = replicate (p * blocks_for p (length bytes) - length bytes) 0 in
+      ap (take (length bytes)) (append_assoc bytes zeros behind) ∙ take_at bytes (zeros ++ behind) (length bytes) refl
+
+  -- what begins with whole payloads keeps these when zeros are put behind all
+  pub padded_behind : (front bytes : List ℕ) → length front % p ≡ 0 → padded p (front ++ bytes) ≡ front ++ padded p bytes
+  unfolding padded
+  padded_behind front bytes whole =
+      let m = length front in
+      let n = length bytes in
+      let long : length (front ++ bytes) ≡ m + n = length-append front bytes in
+      let zeros : p * blocks_for p (length (front ++ bytes)) - length (front ++ bytes) ≡ p * blocks_for p n - n =
+      ap (λ k. p * blocks_for p k - k) long ∙ gap_behind m n whole in
+      ap (λ k. (front ++ bytes) ++ replicate k 0) zeros ∙ append_assoc front bytes (replicate (p * blocks_for p n - n) 0)
+
+-- what is put behind whole payloads and filled up is put as whole payloads
+pub padded_put : (p : ℕ) (old bytes mid new : List ℕ) → IsPayload p → length old % p ≡ 0 → mid ≡ old ++ bytes → new ≡ padded p mid → new ≡ old ++ padded p bytes
+padded_put p old bytes mid new payload whole put filled = filled ∙ ap (padded p) put ∙ padded_behind p payload old bytes whole
+
+pub whole_padded : (p : ℕ) (bytes new : List ℕ) → IsPayload p → new ≡ padded p bytes → length new % p ≡ 0
+whole_padded p bytes new payload e = ap (λ l. length l % p) e ∙ ap (λ n. n % p) (length_padded p payload bytes) ∙ whole_times p payload (blocks_for p (length bytes))
+
+-- the numbers that tell where records begin take few blocks
+pub places_few : (p n : ℕ) → IsPayload p → n < 2 ^ 32 → blocks_for p (8 * (n + 1)) < 2 ^ 24
+unfolding blocks_for
+places_few p n payload few = elim payload.one [ inl e ↦ rw e (omega (arith, few)) | inr e ↦ rw e (omega (arith, few)) ]
+
+-- a level has no more blocks than entries
+pub level_few : (p n : ℕ) → IsPayload p → blocks_for (p / 12) n ≤ n
+unfolding blocks_for
+level_few p n payload = elim payload.one [ inl e ↦ rw e (omega arith) | inr e ↦ rw e (omega arith) ]
+
+-- bytes take few payloads
+pub blocks_few : (p n : ℕ) → IsPayload p → blocks_for p n ≤ n / 4080 + 1
+unfolding blocks_for
+blocks_few p n payload = elim payload.one [ inl e ↦ rw e (omega arith) | inr e ↦ rw e (omega arith) ]
+
+-- so many payloads have a number of bytes that 64 bits count
+pub times_small : (p n : ℕ) → IsPayload p → n < 2 ^ 32 → p * n < 2 ^ 64
+times_small p n payload few = elim payload.one [ inl e ↦ rw e (omega (arith, few)) | inr e ↦ rw e (omega (arith, few)) ]

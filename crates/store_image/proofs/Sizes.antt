@@ -1,6 +1,6 @@
 -- How many bytes the parts of an image take, and how many terms and triples there are.
-use Rattle.std.proofs.Common.{◌≡◌, ℕ, ◌+◌, ◌*◌, ◌<◌, ◌≤◌, ◌++◌, List, [], ◌∷◌, length, map, take, get_or, refl, sym, ap, ◌∙◌, subst, ⊎_elim, inl, inr, arith, length-append}
-use Rattle.std.specs.Prelude.{flat_map}
+use Rattle.std.proofs.Common.{◌≡◌, ℕ, zero, suc, ◌+◌, ◌-◌, ◌*◌, ◌/◌, ◌<◌, ◌≤◌, ◌++◌, List, [], ◌∷◌, length, map, take, drop, replicate, get_or, refl, sym, ap, ◌∙◌, subst, ⊎_elim, inl, inr, Bool, true, false, arith, length-append, length-take}
+use Rattle.std.specs.Prelude.{flat_map, nat_lt, if◌then◌else◌}
 use Rattle.std.specs.Int.{w64, to_be_bytes}
 use Rattle.term_core.specs.declared.term.Term.{Term}
 use Rattle.term_core.specs.declared.term.Triple.{Triple}
@@ -8,7 +8,7 @@ use Rattle.term_core.specs.declared.pattern.IdTriple.{IdTriple}
 use Rattle.term_core.specs.Order.{term_cmp, size_of}
 use Rattle.term_core.specs.OrderLaws.{terms_total}
 use Rattle.term_core.specs.Bags.{In}
-use Rattle.std.proofs.lemmas.List.{take_more, flat_map_more}
+use Rattle.std.proofs.lemmas.List.{take_more, flat_map_more, length-replicate}
 use Rattle.term_core.proofs.Bags.{In-append_cases, In-flat_map, from_In-flat_map}
 use Rattle.term_core.specs.Data.{parts}
 use Rattle.term_core.specs.Index.{by_subject, triple_cmp, in_order}
@@ -18,7 +18,11 @@ use Rattle.term_dict.specs.Records.{record_of}
 use Rattle.term_dict.specs.Built.{records_of, places_from, longest_of, AreShort}
 use Rattle.term_core.proofs.Ranked.{In-slice_get, slice_get-In}
 use Rattle.term_dict.proofs.Steps.{record_short}
-use Rattle.btree_build.specs.Lists.{entry_bytes, list_bytes}
+use Rattle.sage_outside.specs.Parts.{IsPayload}
+use Rattle.btree_build.specs.Trees.{blocks_for, entry_bytes, list_bytes, block_bytes, level_bytes, level_of, above, tree_bytes}
+use Rattle.btree_scan.proofs.Written.{length_above}
+use Rattle.store_image.specs.Header.{tree_blocks}
+use Rattle.store_image.proofs.Padding.{level_few}
 use Rattle.store_image.specs.Table.{decode, IsTable}
 use Rattle.store_image.proofs.TableLists.{length-mapped, In-get_or}
 use Rattle.store_image.proofs.TableSlots.{length-parts}
@@ -28,9 +32,56 @@ length_entry : (e : IdTriple) → length (entry_bytes e) ≡ 12
 unfolding entry_bytes
 length_entry e = refl
 
-pub length_list : (es : List IdTriple) → length (list_bytes es) ≡ 12 * length es
+length_list : (es : List IdTriple) → length (list_bytes es) ≡ 12 * length es
 length_list [] = refl
 length_list (e ∷ es) = length-append (entry_bytes e) (list_bytes es) ∙ omega (arith, length_entry e, length_list es)
+
+length_block : (es : List IdTriple) → 12 * length es ≤ 4096 → length (block_bytes es) ≡ 4096
+unfolding block_bytes
+length_block es few = length-append (list_bytes es) (replicate (4096 - 12 * length es) 0) ∙ omega (arith, length_list es, length-replicate {A = ℕ} (4096 - 12 * length es) 0)
+
+length_level : (per m : ℕ) (es : List IdTriple) → 12 * per ≤ 4096 → length (level_bytes per m es) ≡ 4096 * m
+length_level per zero es narrow = refl
+length_level per (suc m) es narrow =
+    length-append (block_bytes (take per es)) (level_bytes per m (drop per es))
+    ∙ omega (arith, length_block (take per es) (omega (arith, length-take per es)), length_level per m (drop per es) narrow)
+
+-- the bytes of a tree are those of its blocks
+pub length_tree : (p levels : ℕ) (es : List IdTriple) → IsPayload p → length (tree_bytes (p / 12) levels es) ≡ 4096 * tree_blocks (p / 12) levels (length es)
+unfolding tree_blocks
+length_tree p zero es payload = refl
+length_tree p (suc levels) es payload =
+    let per = p / 12 in
+    let n = blocks_for per (length es) in
+    let ups = above per es in
+    let narrow : 12 * per ≤ 4096 = elim payload.one [ inl e ↦ rw e (omega arith) | inr e ↦ rw e (omega arith) ] in
+    let size : length ups ≡ n = length_above p es payload in
+    let rest = tree_bytes per levels ups in
+    let more : length rest ≡ 4096 * tree_blocks per levels n = length_tree p levels ups payload ∙ ap (λ m. 4096 * tree_blocks per levels m) size in
+    let upper : length (if nat_lt 1 (length ups) then rest else []) ≡ 4096 * (if nat_lt 1 n then tree_blocks per levels n else 0) =
+    ap (λ m. length (if nat_lt 1 m then rest else [])) size ∙ either (nat_lt 1 n) rest (tree_blocks per levels n) more in
+    length-append (level_of per es) (if nat_lt 1 (length ups) then rest else []) ∙ omega (arith, length_level per n es narrow, upper)
+  where
+    either : (b : Bool) (xs : List ℕ) (n : ℕ) → length xs ≡ 4096 * n → length (if b then xs else []) ≡ 4096 * (if b then n else 0)
+    either true xs n e = e
+    either false xs n e = refl
+
+-- a tree of three levels has few blocks
+pub tree_few : (p n : ℕ) → IsPayload p → tree_blocks (p / 12) 3 n ≤ 3 * n
+unfolding tree_blocks
+tree_few p n payload =
+    let per = p / 12 in
+    let one = blocks_for per n in
+    let two = blocks_for per one in
+    let three = blocks_for per two in
+    let top : (if nat_lt 1 three then 0 else 0) ≤ 0 = at_most (nat_lt 1 three) 0 0 (omega arith) in
+    let middle : (if nat_lt 1 two then tree_blocks per 1 two else 0) ≤ n = at_most (nat_lt 1 two) (tree_blocks per 1 two) n (omega (arith, top, level_few p n payload, level_few p one payload, level_few p two payload)) in
+    let low : (if nat_lt 1 one then tree_blocks per 2 one else 0) ≤ 2 * n = at_most (nat_lt 1 one) (tree_blocks per 2 one) (2 * n) (omega (arith, middle, level_few p n payload, level_few p one payload)) in
+    omega (arith, low, level_few p n payload)
+  where
+    at_most : (b : Bool) (n m : ℕ) → n ≤ m → (if b then n else 0) ≤ m
+    at_most true n m le = le
+    at_most false n m le = omega arith
 
 pub length_places : (n : ℕ) (ts : List Term) → length (flat_map (to_be_bytes w64) (places_from n ts)) ≡ 8 * (length ts + 1)
 length_places n [] = refl

@@ -2,7 +2,9 @@
 //! memory, of which it is made: the terms in order, and the triples by the ranks of their terms.
 #![tactic(auto)]
 
+mod blocks;
 mod building;
+mod format;
 mod header;
 mod law;
 mod limits;
@@ -11,9 +13,9 @@ mod slot;
 mod table;
 mod table_id;
 
-pub use building::image;
-pub use header::Header;
-pub use law::{equal_sets_give_equal_images, headers_are_alone, written_lists_are_read};
+pub use building::{image, image_of};
+pub use header::{Header, HeaderFault};
+pub use law::{equal_sets_give_equal_images, headers_are_alone};
 pub use limits::have_short_terms;
 pub use orders::{key_in, keys_by};
 pub use table::Table;

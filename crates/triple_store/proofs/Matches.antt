@@ -16,7 +16,7 @@ use Rattle.term_core.specs.Order.{term_cmp, bytes_cmp}
 use Rattle.term_core.specs.OrderLaws.{terms_total}
 use Rattle.term_core.specs.Ids.{id_cmp}
 use Rattle.term_core.specs.Bags.{In}
-use Rattle.term_core.specs.Mappings.{same_term}
+use Rattle.term_core.specs.Mappings.{Row, same_term}
 use Rattle.term_core.proofs.Bags.{In-map, from_In-map}
 use Rattle.term_core.proofs.Merges.{terms_same, term_itself}
 use Rattle.term_core.specs.Patterns.{Pattern, position_of, label_name, filled, fits, agrees}
@@ -134,9 +134,9 @@ twice : (terms : List Term) (x : Index) (keys : List IdTriple) → map (decode t
 twice terms x [] = refl
 twice terms x (key ∷ keys) = ap (λ w. decode terms (ids_of_key x key) ∷ w) (twice terms x keys)
 
-module _ (L : List Triple) (terms : List Term) (ids : List IdTriple) (p : Pattern) (asked : Asked) (r : Range) (table : IsTable L terms ids)
-    (index : index_numbered r.order ≡ index_of p finmap.empty) (stretch : IsKeyStretch (asks_for asked) ids r)
-    (same : (i : IdTriple) → IsBelow (length terms) i → asks_for asked i ≡ agrees p finmap.empty (decode terms i)) where
+module _ (L : List Triple) (terms : List Term) (ids : List IdTriple) (p : Pattern) (row : Row) (asked : Asked) (r : Range) (table : IsTable L terms ids)
+    (index : index_numbered r.order ≡ index_of p row) (stretch : IsKeyStretch (asks_for asked) ids r)
+    (same : (i : IdTriple) → IsBelow (length terms) i → asks_for asked i ≡ agrees p row (decode terms i)) where
   abbrev x_of : Index
   x_of = index_numbered r.order
 
@@ -149,22 +149,22 @@ module _ (L : List Triple) (terms : List Term) (ids : List IdTriple) (p : Patter
   in_data : (i : IdTriple) → In ids i → In L (decode terms i)
   in_data i m = (listing_is by_subject L).is.same.to (decode terms i) (subst (λ w. In w (decode terms i)) table.listing (In-map (decode terms) ids i m))
 
-  listed : map triple_of (keys_at ids r) ≡ range L p finmap.empty
-  listed = range_alone L p finmap.empty (map triple_of (keys_at ids r)) (record {
+  listed : map triple_of (keys_at ids r) ≡ range L p row
+  listed = range_alone L p row (map triple_of (keys_at ids r)) (record {
     ordered = subst (λ x. IsStrictlySortedBy (triple_cmp x) (map triple_of (keys_at ids r))) index
         (rising-map id_cmp (triple_cmp x_of) triple_of (keys_at ids r) stretch.ordered
         (λ a b i j e. sym (key_order terms x_of a b table.rising (key_below a i) (key_below b j)) ∙ e));
     to = λ t i. let w = from_In-map triple_of (keys_at ids r) t i in
         let c = stretch.to w.0 w.1 in (
           subst (In L) w.2 (in_data (ids_of_key x_of w.0) c.0),
-          subst (λ u. agrees p finmap.empty u ≡ true) w.2 (sym (same (ids_of_key x_of w.0) (table.below (ids_of_key x_of w.0) c.0)) ∙ c.1),
+          subst (λ u. agrees p row u ≡ true) w.2 (sym (same (ids_of_key x_of w.0) (table.below (ids_of_key x_of w.0) c.0)) ∙ c.1),
         );
     from = λ t i e. let w = from_In-map (decode terms) ids t (subst (λ w. In w t) (sym table.listing) ((listing_is by_subject L).is.same.from t i)) in
-        let m = stretch.from w.0 w.1 (same w.0 (table.below w.0 w.1) ∙ subst (λ u. agrees p finmap.empty u ≡ true) (sym w.2) e) in
+        let m = stretch.from w.0 w.1 (same w.0 (table.below w.0 w.1) ∙ subst (λ u. agrees p row u ≡ true) (sym w.2) e) in
         subst (In (map triple_of (keys_at ids r))) (ap (decode terms) (undone x_of w.0) ∙ w.2) (In-map triple_of (keys_at ids r) (key_in x_of w.0) m);
   })
 
-  pub range_from : IsRangeOf L terms ids p r
+  pub range_from : IsRangeOf L terms ids p row r
   range_from = record {
     index = index;
     count = length-mapped (ids_of_key x_of) (keys_at ids r) ∙ stretch.count;
@@ -173,5 +173,5 @@ module _ (L : List Triple) (terms : List Term) (ids : List IdTriple) (p : Patter
   }
 
 -- so many triples agree
-pub counted : (L : List Triple) (terms : List Term) (ids : List IdTriple) (p : Pattern) (r : Range) → IsRangeOf L terms ids p r → r.end - r.first ≡ length (range L p finmap.empty)
+pub counted : (L : List Triple) (terms : List Term) (ids : List IdTriple) (p : Pattern) (r : Range) → IsRangeOf L terms ids p finmap.empty r → r.end - r.first ≡ length (range L p finmap.empty)
 counted L terms ids p r is = sym is.count ∙ sym (length-mapped (decode terms) (triples_at ids r)) ∙ ap length is.triples

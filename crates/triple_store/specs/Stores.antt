@@ -1,16 +1,17 @@
 -- An opened store: the header that was read, and its blocks.
-use Rattle.std.specs.Prelude.{◌≡◌, ℕ, ◌^◌, ◌<◌, ◌≤◌, List, length, Err}
+use Rattle.std.specs.Prelude.{◌≡◌, ℕ, ◌^◌, ◌<◌, ◌≤◌, List, length, ◌⊎◌}
 use Rattle.term_core.specs.declared.term.Term.{Term}
 use Rattle.term_core.specs.declared.term.Triple.{Triple}
 use Rattle.term_core.specs.declared.pattern.IdTriple.{IdTriple}
 use Rattle.sage_outside.specs.Blocks.{Device, Tells}
 use Rattle.term_core.specs.Data.{data_id}
 use Rattle.term_dict.specs.Built.{longest_of}
-use Rattle.term_dict.specs.Layout.{stored_term}
 use Rattle.store_image.specs.Table.{IsTable}
 use Rattle.store_image.specs.declared.header.Header.{Header}
-use Rattle.store_image.specs.Header.{AreWithinFile, dict_of}
+use Rattle.store_image.specs.Header.{IsHeader, IsBroken, AreWithinFile}
 use Rattle.store_image.specs.Holds.{Shows}
+use Rattle.triple_store.specs.declared.store.OpenFault.{OpenFault}
+use Rattle.triple_store.specs.declared.store.OpenFault.TheVariants as faults
 
 -- what is seen of an opened store
 pub record View : Type 0 where
@@ -36,11 +37,21 @@ pub record IsShown (store : View) (terms : List Term) (ids : List IdTriple) : Ty
   pub told : Tells store.device.image image
   pub shows : Shows store.header terms ids image
 
--- a number or a record of the dictionary that begins in that block is not well formed
-pub record IsDamaged (h : Header) (image : List ℕ) (block : ℕ) : Type 0 where
-  pub id : ℕ
-  pub within : id < h.terms
-  pub read : stored_term (dict_of h) id image ≡ Err block
+-- the first of so many blocks is of no store: it is no header, and no damaged one
+pub record IsNoStore (block : List ℕ) (count : ℕ) : Type 0 where
+  pub whole : IsBroken block → ⊥
+  pub none : (h : Header) → IsHeader block count h → ⊥
+
+-- why blocks were not opened, by the first of them and their number
+abbrev pub IsCause : List ℕ → ℕ → OpenFault → Type 0
+IsCause block count faults.NotAStore = IsNoStore block count
+IsCause block count (faults.Damaged n) = (n ≡ 0) × IsBroken block
+IsCause block count faults.Blocks = Unit {0}
+IsCause block count faults.Memory = Unit {0}
+
+-- a fault that tells nothing of the blocks' contents
+pub record IsOutside (fault : OpenFault) : Type 0 where
+  pub is : (fault ≡ faults.Blocks) ⊎ (fault ≡ faults.Memory)
 
 -- the store is of these data, a set of triples: it shows the table of their terms and triples, and tells their name and
 -- how many terms and triples they are

@@ -1,4 +1,4 @@
-// The ranks that a pattern asks for.
+//! The ranks that a pattern asks for.
 ghost use Rattle.std.specs.Prelude.{◌≡◌, ◌≤◌, ◌↔◌, IsTrue, IfSome, IfNone, false};
 ghost use Rattle.term_core.specs.declared.pattern.IdTriple.{IdTriple as Ids};
 ghost use Rattle.btree_scan.specs.Cuts.{HasPrefix};
@@ -10,9 +10,9 @@ use btree_scan::Prefix;
 use store_image::key_in;
 use term_core::IdTriple;
 
-/// The rank that is wanted at a place of a pattern.
+/// The rank that is wanted at a place of a pattern: of its term, or of its name's value in a row.
 #[derive(Clone, Copy, Debug, PartialEq, Eq)]
-pub(crate) enum Wanted {
+pub enum Wanted {
     /// Whatever rank there is.
     Any,
     /// This rank alone.
@@ -21,17 +21,17 @@ pub(crate) enum Wanted {
     Nothing,
 }
 
-/// The ranks that a pattern wants.
+/// The ranks that a pattern wants, under a row of ranks or under none.
 #[derive(Clone, Copy, Debug, PartialEq, Eq)]
-pub(crate) struct Asked {
-    pub(crate) s: Wanted,
-    pub(crate) p: Wanted,
-    pub(crate) o: Wanted,
+pub struct Asked {
+    pub s: Wanted,
+    pub p: Wanted,
+    pub o: Wanted,
 }
 
 impl Wanted {
     /// What a term wants, by its rank if it has one.
-    pub(crate) fn of(rank: Option<u32>) -> Wanted
+    pub fn of(rank: Option<u32>) -> Wanted
         ensures { result ≡ wanted_of rank }
     {
         match rank {

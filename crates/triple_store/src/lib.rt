@@ -7,6 +7,7 @@ mod list;
 mod range;
 mod store;
 
+pub use asked::{Asked, Wanted};
 pub use law::stores_stay;
 pub use range::Range;
 pub use store::{Info, OpenFault, Store, Unopened};

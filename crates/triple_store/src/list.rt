@@ -1,10 +1,9 @@
-// The triples that the entries of an order's list spell.
-ghost use Rattle.std.specs.Prelude.{◌≡◌, ◌<◌, ◌≤◌, ◌+◌, ◌-◌, ◌*◌, ◌^◌, ℕ, Err, IfOk};
-ghost use Rattle.sage_outside.specs.Areas.{block_of};
-ghost use Rattle.btree_scan.specs.Entries.{area_of};
+// The triples that the entries of an order's tree spell.
+ghost use Rattle.std.specs.Prelude.{◌≡◌, ◌<◌, ◌^◌, ℕ, Err, IfOk};
+ghost use Rattle.sage_outside.specs.Parts.{IsPayload, Reads};
 ghost use Rattle.store_image.specs.Keys.{index_numbered, ids_of_key};
 ghost use Rattle.store_image.specs.Table.{IsBelow};
-ghost use Rattle.triple_store.specs.Entries.{named_key, ReadsEntry};
+ghost use Rattle.triple_store.specs.Entries.{leaf_of, named_key};
 
 use btree_scan::Tree;
 use sage_outside::ReadFault;
@@ -33,18 +32,18 @@ fn triple_of(order: u8, key: &IdTriple) -> IdTriple
     }
 }
 
-/// What is to be told where the id that begins at the place `at` of a list is no term's.
-fn damaged(tree: &Tree, at: u64) -> ReadFault
-    requires payload { tree.now.payload ≡ 4096 }
-    requires within { tree.now.first * 4096 + at < 2 ^ 32 * 4096 }
-    ensures { result ≡ ReadFault.Damaged (block_of (area_of tree.now) at) }
+/// What is to be told of the entry at a place, an id of which is no term's.
+fn damaged(tree: &Tree, place: u32) -> ReadFault
+    requires payload { IsPayload tree.now.payload }
+    requires within { leaf_of tree.now place < 2 ^ 32 }
+    ensures { result ≡ ReadFault.Damaged (leaf_of tree.now place) }
 {
     ReadFault::Damaged {
-        block: tree.first + (at / tree.payload as u64) as u32,
+        block: tree.first + place / (tree.payload / 12),
     }
 }
 
-/// The triple of the key that stands at a place of an order's list, where its ids are below the
+/// The triple of the key that stands at a place of an order's tree, where its ids are below the
 /// number of terms.
 #[tactic(auto, unfolding(crate::specs::Entries::named_key))]
 pub(crate) fn named(
@@ -54,21 +53,20 @@ pub(crate) fn named(
     place: u32,
     key: &IdTriple,
 ) -> Result<IdTriple, ReadFault>
-    requires payload { tree.now.payload ≡ 4096 }
-    requires within { tree.now.first * 4096 + 12 * (place + 1) ≤ (2 ^ 32 - 1) * 4096 }
-    ensures reads { ReadsEntry result (named_key order terms tree.now place key.now) }
+    requires payload { IsPayload tree.now.payload }
+    requires within { leaf_of tree.now place < 2 ^ 32 }
+    ensures reads { Reads (λ t. t) result (named_key order terms tree.now place key.now) }
     ensures below { IfOk result (λ t. IsBelow terms t) }
     ensures failed { result ≡ Err ReadFault.Blocks → ⊥ }
 {
-    let at = 12 * place as u64;
     if key.s >= terms {
-        return Err(damaged(tree, at));
+        return Err(damaged(tree, place));
     }
     if key.p >= terms {
-        return Err(damaged(tree, at + 4));
+        return Err(damaged(tree, place));
     }
     if key.o >= terms {
-        return Err(damaged(tree, at + 8));
+        return Err(damaged(tree, place));
     }
     Ok(triple_of(order, key))
 }

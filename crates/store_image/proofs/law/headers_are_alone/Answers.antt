@@ -2,4 +2,4 @@ use Rattle.store_image.proofs.Headers.{header_alone}
 use Rattle.store_image.proofs.law.headers_are_alone.Goals as goal
 
 pub returns : goal.returns
-returns c = header_alone
+returns c = λ block count. header_alone block count count

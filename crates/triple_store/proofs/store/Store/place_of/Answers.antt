@@ -1,7 +1,7 @@
-use Rattle.std.proofs.Common.{subst}
+use Rattle.std.proofs.Common.{subst, ap, Err}
 use Rattle.store_image.specs.Table.{IsFound}
 use Rattle.store_image.specs.Keys.{index_numbered, key_in, keys_by}
-use Rattle.triple_store.proofs.Opened.{keys_rise}
+use Rattle.triple_store.proofs.Opened.{keys_rise, same_fault}
 use Rattle.triple_store.proofs.Places.{place_there, nowhere}
 use Rattle.triple_store.proofs.store.Store.place_of.Goals as goal
 
@@ -16,3 +16,6 @@ returns-in-None-clause-found g c = λ terms ids shown.
     let r = c.args.range.now in
     nowhere r ids c.args.t.now (keys_rise c.args.self.now terms ids r.order shown c.requires.range.order)
     (subst (IsFound (keys_by (index_numbered r.order) ids) (key_in (index_numbered r.order) c.args.t.now)) c.in-None.is (c.in-Ok.ensures.found terms ids shown))
+
+pub returns-in-Err-clause-whole : goal.returns-in-Err-clause-whole
+returns-in-Err-clause-whole g c = λ terms ids block shown e. c.in-Err.ensures.whole terms ids block shown (ap Err (c.store_fault.ensures.damaged block (same_fault _ _ e)))

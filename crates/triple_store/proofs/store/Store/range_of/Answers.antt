@@ -1,7 +1,7 @@
-use Rattle.std.proofs.Common.{ap, Err, ◌∙◌}
+use Rattle.std.proofs.Common.{ap, Err}
 use Rattle.term_core.specs.Patterns.{pattern_of}
-use Rattle.triple_store.proofs.Opened.{handed_on, shown_kept}
-use Rattle.triple_store.proofs.Matches.{range_from}
+use Rattle.triple_store.proofs.Opened.{handed_on, same_fault, shown_kept}
+use Rattle.std.specs.FinMap as finmap
 use Rattle.triple_store.proofs.store.Store.range_of.Goals as goal
 
 pub returns-in_err-asked-clause-whole : goal.returns-in_err-asked-clause-whole
@@ -9,7 +9,9 @@ returns-in_err-asked-clause-whole g c = λ terms ids block shown e. c.in_err-ask
 
 pub returns-in-Ok-clause-found : goal.returns-in-Ok-clause-found
 returns-in-Ok-clause-found g c = λ L terms ids table shown.
-    range_from L terms ids (pattern_of c.args.p.now) c.in_ok-asked.asked c.in-Ok.range table
-    (c.in-Ok.ensures.index ∙ c.in_ok-asked.ensures.index)
-    (c.in-Ok.ensures.found terms ids (shown_kept _ _ terms ids c.asked_of.ensures.kept shown))
-    (λ i below. c.in_ok-asked.ensures.found terms ids i shown below)
+    c.in-Ok.ensures.found L terms ids (pattern_of c.args.p.now) finmap.empty table (shown_kept _ _ terms ids c.asked_of.ensures.kept shown)
+    record { index = c.in_ok-asked.ensures.index; same = λ i below. c.in_ok-asked.ensures.found terms ids i shown below }
+
+pub returns-in-Err-clause-whole : goal.returns-in-Err-clause-whole
+returns-in-Err-clause-whole g c = λ terms ids block shown e.
+    c.in-Err.ensures.whole terms ids block (shown_kept _ _ terms ids c.asked_of.ensures.kept shown) (ap Err (c.store_fault.ensures.damaged block (same_fault _ _ e)))
