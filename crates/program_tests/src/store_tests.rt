@@ -12,13 +12,13 @@ const TWO: &[u8] = b"<http://e/a> <http://e/p> <http://e/b> .\n<http://e/a> <htt
 /// The longest record is that of the string: one byte of kind, two lengths of four bytes, "x" and the
 /// 39 bytes of xsd:string. The name is what `sha256sum` makes of `TWO`, whose lines stand in the order
 /// of their terms. Of the six blocks one is the header, one has the places, one the records, and each
-/// list has one.
+/// tree has one.
 const TWO_LINES: &str =
-    "format 0\nterms 4\ntriples 2\nlongest 49\nblocks 6\ndata bdb4eff0abe7b6c557b58abc5a245c322ed644cb8e03e57cc80d91e390f121b4\n";
+    "format 2\nterms 4\ntriples 2\nlongest 49\nblocks 6\ndata bdb4eff0abe7b6c557b58abc5a245c322ed644cb8e03e57cc80d91e390f121b4\n";
 
 /// The name is SHA-256 of the empty text (FIPS 180-4, examples).
 const NO_LINES: &str =
-    "format 0\nterms 0\ntriples 0\nlongest 0\nblocks 2\ndata e3b0c44298fc1c149afbf4c8996fb92427ae41e4649b934ca495991b7852b855\n";
+    "format 2\nterms 0\ntriples 0\nlongest 0\nblocks 2\ndata e3b0c44298fc1c149afbf4c8996fb92427ae41e4649b934ca495991b7852b855\n";
 
 /// Documents, their lines and the length of their store files in bytes.
 const BUILT: [(&[u8], &str, usize); 2] = [(b"", NO_LINES, 8192), (TWO, TWO_LINES, 24_576)];
@@ -90,6 +90,33 @@ fn a_store_that_is_not_told_of(rt: HostRuntime) -> Result<(), Fail> {
         let cut = &store[..length.min(store.len())];
         let outcome = told(rt.alloc(), cut, fails)?;
         assert!(rt; outcome.is(status, "", message), "{length}");
+    }
+    Ok(())
+}
+
+/// A store file with the byte at a place raised by one, modulo 256.
+fn raised(alloc: Global, store: &[u8], place: usize) -> Result<Vec<u8>, Fail> {
+    let mut changed = Vec::from_slice(alloc, store)?;
+    if place < changed.len() {
+        changed[place] = changed[place].wrapping_add(1);
+    }
+    Ok(changed)
+}
+
+/// The last byte of a block, which is one of its tag, and what comes where it is raised: the first block alone
+/// is read.
+const RAISED: [(usize, u8, &str, &str); 2] = [
+    (4095, 5, "", "sage: store block 0\n"),
+    (12_287, 0, TWO_LINES, ""),
+];
+
+#[test]
+fn a_damaged_block_is_named(rt: HostRuntime) -> Result<(), Fail> {
+    let store = built(rt.alloc(), TWO)?.store;
+    for &(place, status, out, err) in RAISED.as_slice() {
+        let changed = raised(rt.alloc(), &store, place)?;
+        let outcome = told(rt.alloc(), &changed, &[])?;
+        assert!(rt; outcome.is(status, out, err), "{place}");
     }
     Ok(())
 }

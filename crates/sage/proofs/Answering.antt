@@ -67,4 +67,5 @@ not_selected refusals.Words document query quanta triples is_data h = absurd h
 not_selected (refusals.Data fault) document query quanta triples is_data h = absurd h
 not_selected (refusals.File name) document query quanta triples is_data h = absurd h
 not_selected refusals.NotAStore document query quanta triples is_data h = absurd h
+not_selected (refusals.DamagedStore block) document query quanta triples is_data h = absurd h
 not_selected refusals.Output document query quanta triples is_data h = absurd h

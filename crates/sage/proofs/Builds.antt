@@ -25,6 +25,7 @@ unread_unmade (refusals.File name) data_name files before now why = why
 unread_unmade refusals.Words data_name files before now why = absurd why
 unread_unmade (refusals.Data fault) data_name files before now why = absurd why
 unread_unmade refusals.NotAStore data_name files before now why = absurd why
+unread_unmade (refusals.DamagedStore block) data_name files before now why = absurd why
 unread_unmade (refusals.Query cause) data_name files before now why = absurd why
 unread_unmade refusals.Output data_name files before now why = absurd why
 
@@ -44,6 +45,7 @@ module _ (files : Option Files) (data_name read : List ℕ) (prefix : IsPrefixOf
   unmade refusals.Words before now h = absurd h
   unmade (refusals.File name) before now h = absurd h
   unmade refusals.NotAStore before now h = absurd h
+  unmade (refusals.DamagedStore block) before now h = absurd h
   unmade (refusals.Query cause) before now h = absurd h
   unmade refusals.Output before now h = absurd h
 
@@ -57,6 +59,7 @@ module _ (data_name store_name : List ℕ) (before after : Io) where
   builds_refused (refusals.Data fault) same why = (why, same)
   builds_refused refusals.Words same why = absurd why
   builds_refused refusals.NotAStore same why = absurd why
+  builds_refused (refusals.DamagedStore block) same why = absurd why
   builds_refused (refusals.Query cause) same why = absurd why
   builds_refused refusals.Output same why = absurd why
 
@@ -67,6 +70,7 @@ module _ (data_name store_name : List ℕ) (before after : Io) where
   builds_unwritten refusals.Words named why = absurd named
   builds_unwritten (refusals.Data fault) named why = absurd named
   builds_unwritten refusals.NotAStore named why = absurd named
+  builds_unwritten (refusals.DamagedStore block) named why = absurd named
   builds_unwritten (refusals.Query cause) named why = absurd named
   builds_unwritten refusals.Output named why = absurd named
 
@@ -113,6 +117,7 @@ module _ (data_name store_name : List ℕ) (before after : Io) where
       }
   build_must (Err refusals.Words) h = absurd h
   build_must (Err refusals.NotAStore) h = absurd h
+  build_must (Err (refusals.DamagedStore block)) h = absurd h
   build_must (Err (refusals.Query cause)) h = absurd h
 
   -- a message that found no memory
@@ -121,6 +126,7 @@ module _ (data_name store_name : List ℕ) (before after : Io) where
   build_wants (Err (refusals.File name)) takes (inr h) = record { files = inr h.1.begun; out = h.1.out }
   build_wants (Err (refusals.Data fault)) takes h = record { files = inl h.1.files; out = h.1.out }
   build_wants (Err (refusals.Query cause)) takes h = absurd h
+  build_wants (Err (refusals.DamagedStore block)) takes h = absurd h
   build_wants ending takes h = absurd takes
 
   -- nothing was put out
@@ -133,6 +139,7 @@ module _ (data_name store_name : List ℕ) (before after : Io) where
   build_unwritten (Err refusals.Output) none h = absurd (none tt)
   build_unwritten (Err refusals.Words) none h = absurd h
   build_unwritten (Err refusals.NotAStore) none h = absurd h
+  build_unwritten (Err (refusals.DamagedStore block)) none h = absurd h
   build_unwritten (Err (refusals.Query cause)) none h = absurd h
 
   begun_keeps : HasBegun data_name store_name before after → KeepsFiles (Some (Build data_name store_name)) before.files after.files
@@ -148,4 +155,5 @@ module _ (data_name store_name : List ℕ) (before after : Io) where
   build_keeps (Err refusals.Output) h = inr (h.built.image, h.built.written)
   build_keeps (Err refusals.Words) h = absurd h
   build_keeps (Err refusals.NotAStore) h = absurd h
+  build_keeps (Err (refusals.DamagedStore block)) h = absurd h
   build_keeps (Err (refusals.Query cause)) h = absurd h

@@ -39,6 +39,7 @@ not_read (refusals.File other) name files before now named cause = (named, cause
 not_read refusals.Words name files before now named cause = absurd named
 not_read (refusals.Data fault) name files before now named cause = absurd named
 not_read refusals.NotAStore name files before now named cause = absurd named
+not_read (refusals.DamagedStore block) name files before now named cause = absurd named
 not_read (refusals.Query why) name files before now named cause = absurd named
 not_read refusals.Output name files before now named cause = absurd named
 

@@ -9,16 +9,20 @@ use Rattle.sage.specs.declared.info_lines.HeaderFault.TheVariants as faults
 use Rattle.sage.specs.World.{Io}
 use Rattle.sage.specs.Ending.{Ending, status_of, NamesFile, TakesMemory}
 use Rattle.sage.specs.Told.{IsUntouched}
-use Rattle.sage.specs.Info.{OverFile, NoHeader, IsHeaderRefusal, WhyNoLines, Informs, InfoMust}
+use Rattle.sage_outside.specs.Blocks.{block_at, image_of}
+use Rattle.store_image.proofs.Headers.{sound_from}
+use Rattle.sage.specs.Info.{OverFile, NoHeader, NoStore, HasDamagedHeader, IsHeaderRefusal, WhyNoLines, Informs, InfoMust}
 use Rattle.sage.specs.Runs.{MayPutOut}
 use Rattle.sage.proofs.Files.{unread_rose}
 
 -- why a file has no lines
 pub no_lines : (fault : HeaderFault) (e : Refusal) (store_name : List ℕ) (files : Option Files) (before now : ℕ) → IsHeaderRefusal fault store_name e
-    → (fault ≡ faults.Unread → Lacks files store_name ⊎ Rose before now) → (fault ≡ faults.NotAStore → OverFile files store_name NoHeader) → WhyNoLines e store_name files before now
-no_lines faults.Memory e store_name files before now is unread none = subst (λ r. WhyNoLines r store_name files before now) (sym is) tt
-no_lines faults.NotAStore e store_name files before now is unread none = subst (λ r. WhyNoLines r store_name files before now) (sym is) (none refl)
-no_lines faults.Unread e store_name files before now is unread none = named e is
+    → (fault ≡ faults.Unread → Lacks files store_name ⊎ Rose before now) → (fault ≡ faults.NotAStore → OverFile files store_name NoStore)
+    → (fault ≡ faults.Damaged → OverFile files store_name (HasDamagedHeader 0)) → WhyNoLines e store_name files before now
+no_lines faults.Memory e store_name files before now is unread none broken = subst (λ r. WhyNoLines r store_name files before now) (sym is) tt
+no_lines faults.NotAStore e store_name files before now is unread none broken = subst (λ r. WhyNoLines r store_name files before now) (sym is) (none refl)
+no_lines faults.Damaged e store_name files before now is unread none broken = subst (λ r. WhyNoLines r store_name files before now) (sym is) (broken refl)
+no_lines faults.Unread e store_name files before now is unread none broken = named e is
   where
     named : (r : Refusal) → NamesFile store_name r → WhyNoLines r store_name files before now
     named refusals.Memory n = tt
@@ -26,12 +30,16 @@ no_lines faults.Unread e store_name files before now is unread none = named e is
     named refusals.Words n = absurd n
     named (refusals.Data fault) n = absurd n
     named refusals.NotAStore n = absurd n
+    named (refusals.DamagedStore block) n = absurd n
     named (refusals.Query cause) n = absurd n
     named refusals.Output n = absurd n
 
 -- no fault is another
 pub other_fault : (fault : HeaderFault) → fault ≡ faults.NotAStore → fault ≡ faults.Unread → ⊥
 other_fault fault is other = cc
+
+pub damaged_fault : (fault : HeaderFault) → fault ≡ faults.Damaged → fault ≡ faults.Unread → ⊥
+damaged_fault fault is other = cc
 
 -- ---- the command
 
@@ -41,6 +49,7 @@ module _ (store_name : List ℕ) (before after : Io) where
   informs_refused refusals.Memory same why = same
   informs_refused (refusals.File name) same why = (why.0, record { there = λ other i lacks. i; cause = why.1; untouched = same })
   informs_refused refusals.NotAStore same why = (why, same)
+  informs_refused (refusals.DamagedStore block) same why = (why, same)
   informs_refused refusals.Words same why = absurd why
   informs_refused (refusals.Data fault) same why = absurd why
   informs_refused (refusals.Query cause) same why = absurd why
@@ -66,7 +75,14 @@ module _ (store_name : List ℕ) (before after : Io) where
   info_must (Err refusals.NotAStore) h = record {
     no_file = λ lacks. absurd (h.0.there lacks);
     refuses_store = λ file has none still. inl refl;
-    complete = λ file has header is_header quiet. absurd (h.0.holds file has header is_header);
+    complete = λ file has header is_header quiet. absurd ((h.0.holds file has).none header is_header);
+  }
+  info_must (Err (refusals.DamagedStore block)) h = record {
+    no_file = λ lacks. absurd (h.0.there lacks);
+    refuses_store = λ file has none still. inl refl;
+    complete = λ file has header is_header quiet. absurd (
+        sound_from header.format (block_at 0 (image_of file)) is_header.format is_header.mark is_header.sound (h.0.holds file has).1
+        );
   }
   info_must (Err refusals.Output) h = record {
     no_file = λ lacks. absurd (h.prefix.there lacks);
@@ -81,6 +97,7 @@ module _ (store_name : List ℕ) (before after : Io) where
   pub info_wants : (ending : Ending) → TakesMemory ending → Informs store_name before after ending → Informs store_name before after (Err refusals.Memory)
   info_wants (Err (refusals.File name)) takes h = h.1.untouched
   info_wants (Err (refusals.Data fault)) takes h = absurd h
+  info_wants (Err (refusals.DamagedStore block)) takes h = h.1
   info_wants (Err (refusals.Query cause)) takes h = absurd h
   info_wants ending takes h = absurd takes
 
@@ -90,6 +107,7 @@ module _ (store_name : List ℕ) (before after : Io) where
   info_unwritten (Err refusals.Memory) none h = h.out
   info_unwritten (Err (refusals.File name)) none h = h.1.untouched.out
   info_unwritten (Err refusals.NotAStore) none h = h.1.out
+  info_unwritten (Err (refusals.DamagedStore block)) none h = h.1.out
   info_unwritten (Err refusals.Output) none h = absurd (none tt)
   info_unwritten (Err refusals.Words) none h = absurd h
   info_unwritten (Err (refusals.Data fault)) none h = absurd h
@@ -101,6 +119,7 @@ module _ (store_name : List ℕ) (before after : Io) where
   info_keeps (Err refusals.Memory) h = h.files
   info_keeps (Err (refusals.File name)) h = h.1.untouched.files
   info_keeps (Err refusals.NotAStore) h = h.1.files
+  info_keeps (Err (refusals.DamagedStore block)) h = h.1.files
   info_keeps (Err refusals.Output) h = h.files
   info_keeps (Err refusals.Words) h = absurd h
   info_keeps (Err (refusals.Data fault)) h = absurd h

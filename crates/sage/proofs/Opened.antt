@@ -21,7 +21,9 @@ use Rattle.sage_outside.specs.Held.{device_of}
 use Rattle.sage_outside.specs.BlockLaws.{whole_image}
 use Rattle.triple_store.specs.declared.store.OpenFault.{OpenFault}
 use Rattle.triple_store.specs.declared.store.OpenFault.TheVariants as open_faults
-use Rattle.triple_store.specs.Stores.{View, IsKept, IsStoreOf}
+use Rattle.store_image.proofs.Headers.{header_alone}
+use Rattle.triple_store.specs.Stores.{View, IsKept, IsStoreOf, IsCause, IsOutside}
+use Rattle.triple_store.proofs.Opened.{outside}
 use Rattle.pattern_page.specs.declared.page.PageFault.{PageFault}
 use Rattle.pattern_page.specs.declared.page.PageFault.TheVariants as faults
 use Rattle.pattern_page.specs.PagesOf.{MayRefuse}
@@ -41,14 +43,11 @@ image_whole bytes n e f =
 
 -- a block is one header
 pub one_header : (block : List ℕ) (n m : ℕ) (h k : Header) → IsHeader block n h → IsHeader block m k → h ≡ k
-one_header block n m h k a b =
-    let blocks = a.blocks ∙ sym b.blocks in let terms = a.terms ∙ sym b.terms in let triples = a.triples ∙ sym b.triples in
-    let longest = a.longest ∙ sym b.longest in let name = a.data_name ∙ sym b.data_name in
-    λ i. record { blocks = blocks i; terms = terms i; triples = triples i; longest = longest i; data_id = name i }
+one_header block n m h k a b = header_alone block n m h k a b
 
 -- the image that a store in memory tells
-pub told_whole : (L : List Triple) (bytes : List ℕ) (holds : Holds L bytes) (device : Device) → device.image ≡ Some (image_of bytes) → Tells device.image bytes
-told_whole L bytes holds device e = record { told = e ∙ ap Some (image_whole bytes holds.header.blocks holds.whole holds.few) }
+pub told_whole : (L : List Triple) (format : ℕ) (bytes : List ℕ) (holds : Holds L format bytes) (device : Device) → device.image ≡ Some (image_of bytes) → Tells device.image bytes
+told_whole L format bytes holds device e = record { told = e ∙ ap Some (image_whole bytes holds.header.blocks holds.whole holds.few) }
 
 -- what pages refuse, an answer refuses
 pub counts_refused : (D : List Triple) (pattern : Pattern) (quanta : List ℕ) (names : List Name) (before after : List ℕ) (e : PageFault) (r : Result Answer PageFault) →
@@ -92,15 +91,32 @@ short_terms (triple ∷ triples) all t (inr (inl e)) = let h : HasShortTerms tri
 short_terms (triple ∷ triples) all t (inr (inr (inl e))) = let h : HasShortTerms triple = all 0 triple (omega arith) in subst (λ u. size_of u ≤ 262144) e h.object
 short_terms (triple ∷ triples) all t (inr (inr (inr i))) = short_terms triples (λ k d h. all (suc k) d (omega (arith, h))) t i
 
--- a store file in memory that holds data is a store, and its blocks never fail
-pub not_refused : (L : List Triple) (bytes held : List ℕ) (fault : OpenFault) (device now : Device) → Holds L bytes → device.image ≡ Some (image_of bytes)
-    → device ≡ device_of held 0 device.reads → now.faults ≡ 0
-    → (fault ≡ open_faults.NotAStore) ⊎ (fault ≡ open_faults.Blocks)
-    → ((image : List ℕ) → Tells device.image image → fault ≡ open_faults.NotAStore → (h : Header) → IsHeader (block_at 0 image) device.count h → ⊥)
-    → (fault ≡ open_faults.Blocks → Rose device.faults now.faults) → ⊥
-not_refused L bytes held fault device now holds e d none (inl is) refused failed =
-    let told = told_whole L bytes holds device e in
+-- an opened store in memory, whose blocks never fail
+pub never_failed : (fault : OpenFault) (before now : ℕ) → IsOutside fault → now ≡ 0 → (fault ≡ open_faults.Blocks → Rose before now) → fault ≡ open_faults.Memory
+never_failed fault before now outside none failed = told outside.is
+  where
+    told : (fault ≡ open_faults.Blocks) ⊎ (fault ≡ open_faults.Memory) → fault ≡ open_faults.Memory
+    told (inl e) = absurd (omega (arith, failed e, none))
+    told (inr e) = e
+
+-- a store file in memory that holds data is not refused for what its blocks tell
+pub not_refused : (L : List Triple) (format : ℕ) (bytes held : List ℕ) (fault : OpenFault) (device : Device) → Holds L format bytes → device.image ≡ Some (image_of bytes)
+    → device ≡ device_of held 0 device.reads → ((image : List ℕ) → Tells device.image image → IsCause (block_at 0 image) device.count fault) → IsOutside fault
+not_refused L format bytes held fault device holds e d cause =
+    let told = told_whole L format bytes holds device e in
     let size : length bytes ≡ 4096 * block_count (length held) = whole_image held bytes (record { told = sym (ap (λ (x : Device). x.image) d) ∙ told.told }) in
-    let count : holds.header.blocks ≡ device.count = omega (arith, size, holds.whole, ap (λ (x : Device). x.count) d) in
-    refused bytes told is holds.header (subst (λ n. IsHeader (block_at 0 bytes) n holds.header) count holds.is_header)
-not_refused L bytes held fault device now holds e d none (inr is) refused failed = absurd (omega (arith, failed is, none))
+    outside L format bytes device.count fault holds (omega (arith, size, ap (λ (x : Device). x.count) d)) (cause bytes told)
+
+pub no_store_outside : IsOutside open_faults.NotAStore → ⊥
+no_store_outside o = told o.is
+  where
+    told : (open_faults.NotAStore ≡ open_faults.Blocks) ⊎ (open_faults.NotAStore ≡ open_faults.Memory) → ⊥
+    told (inl e) = cc
+    told (inr e) = cc
+
+pub damaged_outside : (block : ℕ) → IsOutside (open_faults.Damaged block) → ⊥
+damaged_outside block o = told o.is
+  where
+    told : (open_faults.Damaged block ≡ open_faults.Blocks) ⊎ (open_faults.Damaged block ≡ open_faults.Memory) → ⊥
+    told (inl e) = cc
+    told (inr e) = cc

@@ -58,4 +58,5 @@ module _ (text : List ℕ) (split : Split) (accepted : Accepted text split) wher
   read_of (Err (refusals.File name)) h = absurd h
   read_of (Err (refusals.Data fault)) h = absurd h
   read_of (Err refusals.NotAStore) h = absurd h
+  read_of (Err (refusals.DamagedStore block)) h = absurd h
   read_of (Err refusals.Output) h = absurd h

@@ -14,7 +14,8 @@ use Rattle.sage_outside.specs.Shelf.{Files, Lacks, Started, Grown}
 use Rattle.sage_outside.specs.Blocks.{Device, Tells as TellsBytes, block_at, block_count, image_of}
 use Rattle.sage_outside.specs.BlockLaws.{length_whole}
 use Rattle.store_image.specs.declared.header.Header.{Header}
-use Rattle.store_image.specs.Header.{IsHeader}
+use Rattle.store_image.specs.Header.{IsHeader, IsBroken}
+use Rattle.triple_store.specs.Stores.{IsNoStore}
 use Rattle.store_image.specs.Holds.{Holds}
 use Rattle.sage.specs.declared.info_lines.HeaderFault.{HeaderFault}
 use Rattle.sage.specs.declared.info_lines.HeaderFault.TheVariants as faults
@@ -27,7 +28,7 @@ use Rattle.triple_store.specs.declared.store.OpenFault.TheVariants as open_fault
 use Rattle.sage_outside.specs.Held.{device_of}
 use Rattle.sage.proofs.Prefixes.{take_add}
 use Rattle.sage.proofs.Limits.{data_back}
-use Rattle.sage.proofs.Opened.{one_header, not_refused}
+use Rattle.sage.proofs.Opened.{one_header, not_refused, no_store_outside, damaged_outside}
 
 -- ---- maps of files
 
@@ -111,11 +112,11 @@ rose_before P a b c le h = let rose : Rose b c = h.0 in (omega (arith, le, rose)
 -- ---- what is made of a document
 
 -- the lines of bytes that are equal
-pub same_lines : (triples : List Triple) (a b lines : List ℕ) → a ≡ b → ((L : List Triple) (holds : Holds L a) → lines ≡ header_lines holds.header) → (holds : Holds triples b) → lines ≡ header_lines holds.header
-same_lines triples a b lines is tell holds = subst (λ x. (L : List Triple) (holds : Holds L x) → lines ≡ header_lines holds.header) is tell triples holds
+pub same_lines : (triples : List Triple) (a b lines : List ℕ) → a ≡ b → ((L : List Triple) (holds : Holds L 2 a) → lines ≡ header_lines holds.header) → (holds : Holds triples 2 b) → lines ≡ header_lines holds.header
+same_lines triples a b lines is tell holds = subst (λ x. (L : List Triple) (holds : Holds L 2 x) → lines ≡ header_lines holds.header) is tell triples holds
 
 -- the lines that tell the header of an image's first block are those of the image
-pub lines_held : (triples : List Triple) (image lines : List ℕ) (count : ℕ) → TellHeader (block_at 0 image) count lines → (holds : Holds triples image) → lines ≡ header_lines holds.header
+pub lines_held : (triples : List Triple) (image lines : List ℕ) (count : ℕ) → TellHeader (block_at 0 image) count lines → (holds : Holds triples 2 image) → lines ≡ header_lines holds.header
 lines_held triples image lines count told holds = told.tell ∙ ap header_lines (one_header (block_at 0 image) count holds.header.blocks told.header holds.header told.is_header holds.is_header)
 
 -- what was made of the bytes that were read was made of the file
@@ -133,7 +134,7 @@ pub told_of : (file lines : List ℕ) (before after : SinkState) → TellHeader 
 told_of file lines before after told got = record {
   header = told.header;
   is_header = told.is_header;
-  of_data = λ triples holds. one_header (block_at 0 (image_of file)) (block_count (length file)) holds.header.blocks told.header holds.header told.is_header holds.is_header;
+  of_data = λ triples format holds. one_header (block_at 0 (image_of file)) (block_count (length file)) holds.header.blocks told.header holds.header told.is_header holds.is_header;
   got = subst (λ text. HasGot before after text) told.tell got;
 }
 
@@ -150,14 +151,17 @@ pub count_of_file : (file : List ℕ) (count : ℕ) → length (image_of file) �
 count_of_file file count is = omega (arith, is, length_whole (block_count (length file)) file)
 
 -- over a store file in memory that holds data, memory alone runs out
-pub only_memory : (L : List Triple) (bytes held : List ℕ) (fault : HeaderFault) (device now : Device) → Holds L bytes → device.image ≡ Some (image_of bytes)
+pub only_memory : (L : List Triple) (format : ℕ) (bytes held : List ℕ) (fault : HeaderFault) (device now : Device) → Holds L format bytes → device.image ≡ Some (image_of bytes)
     → device ≡ device_of held 0 device.reads → now.faults ≡ 0
-    → ((image : List ℕ) → TellsBytes device.image image → fault ≡ faults.NotAStore → (h : Header) → IsHeader (block_at 0 image) device.count h → ⊥)
+    → ((image : List ℕ) → TellsBytes device.image image → fault ≡ faults.NotAStore → IsNoStore (block_at 0 image) device.count)
+    → ((image : List ℕ) → TellsBytes device.image image → fault ≡ faults.Damaged → IsBroken (block_at 0 image))
     → (fault ≡ faults.Unread → Rose device.faults now.faults) → fault ≡ faults.Memory
-only_memory L bytes held faults.Memory device now holds e d none refused failed = refl
-only_memory L bytes held faults.NotAStore device now holds e d none refused failed =
-    absurd (not_refused L bytes held open_faults.NotAStore device now holds e d none (inl refl) (λ image told is. refused image told refl) (λ is. absurd cc))
-only_memory L bytes held faults.Unread device now holds e d none refused failed =
+only_memory L format bytes held faults.Memory device now holds e d none refused broken failed = refl
+only_memory L format bytes held faults.NotAStore device now holds e d none refused broken failed =
+    absurd (no_store_outside (not_refused L format bytes held open_faults.NotAStore device holds e d (λ image told. refused image told refl)))
+only_memory L format bytes held faults.Damaged device now holds e d none refused broken failed =
+    absurd (damaged_outside 0 (not_refused L format bytes held (open_faults.Damaged 0) device holds e d (λ image told. (refl, broken image told refl))))
+only_memory L format bytes held faults.Unread device now holds e d none refused broken failed =
     let rose : Rose device.faults now.faults = failed refl in
     let zero : device.faults ≡ 0 = ap (λ (x : Device). x.faults) d in
     absurd (omega (arith, rose, none, zero))

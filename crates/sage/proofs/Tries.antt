@@ -25,6 +25,7 @@ first_unread (refusals.File name) data_name query_name files before now why = in
 first_unread refusals.Words data_name query_name files before now why = absurd why
 first_unread (refusals.Data fault) data_name query_name files before now why = absurd why
 first_unread refusals.NotAStore data_name query_name files before now why = absurd why
+first_unread (refusals.DamagedStore block) data_name query_name files before now why = absurd why
 first_unread (refusals.Query cause) data_name query_name files before now why = absurd why
 first_unread refusals.Output data_name query_name files before now why = absurd why
 
@@ -40,6 +41,7 @@ second_unread (refusals.File name) data_name query_name files seen before betwee
 second_unread refusals.Words data_name query_name files seen before between now same later there why = absurd why
 second_unread (refusals.Data fault) data_name query_name files seen before between now same later there why = absurd why
 second_unread refusals.NotAStore data_name query_name files seen before between now same later there why = absurd why
+second_unread (refusals.DamagedStore block) data_name query_name files seen before between now same later there why = absurd why
 second_unread (refusals.Query cause) data_name query_name files seen before between now same later there why = absurd why
 second_unread refusals.Output data_name query_name files seen before between now same later there why = absurd why
 
@@ -50,6 +52,7 @@ unread_unanswered (refusals.File name) data_name query_name files before now why
 unread_unanswered refusals.Words data_name query_name files before now why = absurd why
 unread_unanswered (refusals.Data fault) data_name query_name files before now why = absurd why
 unread_unanswered refusals.NotAStore data_name query_name files before now why = absurd why
+unread_unanswered (refusals.DamagedStore block) data_name query_name files before now why = absurd why
 unread_unanswered (refusals.Query cause) data_name query_name files before now why = absurd why
 unread_unanswered refusals.Output data_name query_name files before now why = absurd why
 
@@ -89,6 +92,7 @@ module _ (files : Option Files) (data_name query_name quanta document query : Li
   unanswered refusals.Words before now h = absurd h
   unanswered (refusals.File name) before now h = absurd h
   unanswered refusals.NotAStore before now h = absurd h
+  unanswered (refusals.DamagedStore block) before now h = absurd h
   unanswered refusals.Output before now h = absurd h
 
 -- ---- the command
@@ -110,6 +114,7 @@ module _ (data_name query_name quanta : List ℕ) (before after : Io) where
   tries_refused (refusals.Query cause) same why = (why, same)
   tries_refused refusals.Words same why = absurd why
   tries_refused refusals.NotAStore same why = absurd why
+  tries_refused (refusals.DamagedStore block) same why = absurd why
   tries_refused refusals.Output same why = absurd why
 
   both_there : (document query : List ℕ) → AreFilesRead before.files data_name query_name document query → Lacks before.files data_name ⊎ Lacks before.files query_name → ⊥
@@ -177,6 +182,7 @@ module _ (data_name query_name quanta : List ℕ) (before after : Io) where
       }
   try_must (Err refusals.Words) h = absurd h
   try_must (Err refusals.NotAStore) h = absurd h
+  try_must (Err (refusals.DamagedStore block)) h = absurd h
 
   -- a message that found no memory
   pub try_wants : (ending : Ending) → TakesMemory ending → Tries data_name query_name quanta before after ending → Tries data_name query_name quanta before after (Err refusals.Memory)
@@ -184,6 +190,7 @@ module _ (data_name query_name quanta : List ℕ) (before after : Io) where
   try_wants (Err (refusals.File name)) takes (inr h) = h.1.untouched
   try_wants (Err (refusals.Data fault)) takes h = h.1
   try_wants (Err (refusals.Query cause)) takes h = h.1
+  try_wants (Err (refusals.DamagedStore block)) takes h = absurd h
   try_wants ending takes h = absurd takes
 
   -- nothing was put out
@@ -197,6 +204,7 @@ module _ (data_name query_name quanta : List ℕ) (before after : Io) where
   try_unwritten (Err refusals.Output) none h = absurd (none tt)
   try_unwritten (Err refusals.Words) none h = absurd h
   try_unwritten (Err refusals.NotAStore) none h = absurd h
+  try_unwritten (Err (refusals.DamagedStore block)) none h = absurd h
 
   -- no file changed
   pub try_keeps : (ending : Ending) → Tries data_name query_name quanta before after ending → after.files ≡ before.files
@@ -209,3 +217,4 @@ module _ (data_name query_name quanta : List ℕ) (before after : Io) where
   try_keeps (Err refusals.Output) h = h.files
   try_keeps (Err refusals.Words) h = absurd h
   try_keeps (Err refusals.NotAStore) h = absurd h
+  try_keeps (Err (refusals.DamagedStore block)) h = absurd h

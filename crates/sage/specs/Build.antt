@@ -78,6 +78,7 @@ Builds data_name store_name before after (Err (refusals.Data fault)) = IsDocumen
 Builds data_name store_name before after (Err refusals.Output) = IsBuildUntold data_name store_name before after
 Builds data_name store_name before after (Err refusals.Words) = ⊥
 Builds data_name store_name before after (Err refusals.NotAStore) = ⊥
+Builds data_name store_name before after (Err (refusals.DamagedStore block)) = ⊥
 Builds data_name store_name before after (Err (refusals.Query cause)) = ⊥
 
 -- Where a status of `build` has to come, want of memory aside.

@@ -1,5 +1,6 @@
 -- How a command ends: with what it tells standard error, or with a refusal; and the status and the message of each.
 use Rattle.std.specs.Prelude.{◌≡◌, ◌⊎◌, ◌++◌, ℕ, List, [], ◌∷◌, take, Some, Result, Ok, Err, codes}
+use Rattle.std.specs.Fmt.{decimal}
 use Rattle.sage_outside.specs.Causes.{Rose}
 use Rattle.sage.specs.declared.refusal.Refusal.{Refusal}
 use Rattle.sage.specs.declared.refusal.Refusal.TheVariants as refusals
@@ -19,12 +20,17 @@ status_of (Err refusals.Words) = 2
 status_of (Err (refusals.File name)) = 3
 status_of (Err (refusals.Data fault)) = 4
 status_of (Err refusals.NotAStore) = 5
+status_of (Err (refusals.DamagedStore block)) = 5
 status_of (Err (refusals.Query cause)) = 6
 status_of (Err refusals.Output) = 9
 
 -- the line for a file that is not read or written
 abbrev pub file_message : List ℕ → List ℕ
 file_message name = codes "sage: file " ++ (name ++ 10 ∷ [])
+
+-- the line for a block of a store file that is not well formed
+abbrev pub block_message : ℕ → List ℕ
+block_message block = codes "sage: store block " ++ (decimal block ++ codes "\n")
 
 -- what standard error is told
 abbrev pub message_of : Ending → List ℕ
@@ -34,6 +40,7 @@ message_of (Err refusals.Words) = codes "sage: words\n"
 message_of (Err (refusals.File name)) = file_message name
 message_of (Err (refusals.Data fault)) = data_message fault
 message_of (Err refusals.NotAStore) = codes "sage: not a store\n"
+message_of (Err (refusals.DamagedStore block)) = block_message block
 message_of (Err (refusals.Query cause)) = query_message cause
 message_of (Err refusals.Output) = codes "sage: output\n"
 
@@ -65,6 +72,7 @@ abbrev pub TakesMemory : Ending → Type 0
 TakesMemory (Ok told) = ⊥
 TakesMemory (Err (refusals.File name)) = Unit {0}
 TakesMemory (Err (refusals.Data fault)) = Unit {0}
+TakesMemory (Err (refusals.DamagedStore block)) = Unit {0}
 TakesMemory (Err (refusals.Query cause)) = Unit {0}
 TakesMemory (Err refusal) = ⊥
 

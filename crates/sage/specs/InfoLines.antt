@@ -15,11 +15,11 @@ hex_byte byte = hex_digit (byte / 16) ∷ hex_digit (byte % 16) ∷ []
 abbrev pub hex_of : List ℕ → List ℕ
 hex_of bytes = flat_map hex_byte bytes
 
--- the format, which is 0, and the numbers of the header
+-- the format and the numbers of the header
 abbrev pub number_lines : Header → List ℕ
 number_lines h =
-    codes "format 0\nterms " ++ (decimal h.terms ++ (codes "\ntriples " ++ (decimal h.triples ++ (codes "\nlongest " ++ (decimal h.longest
-    ++ (codes "\nblocks " ++ (decimal h.blocks ++ codes "\n")))))))
+    codes "format " ++ (decimal h.format ++ (codes "\nterms " ++ (decimal h.terms ++ (codes "\ntriples " ++ (decimal h.triples ++ (codes "\nlongest " ++ (decimal h.longest
+    ++ (codes "\nblocks " ++ (decimal h.blocks ++ codes "\n")))))))))
 
 -- the six lines: the format, the numbers, and the name of the data in hexadecimal digits
 unfoldable pub header_lines : Header → List ℕ

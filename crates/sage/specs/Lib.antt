@@ -12,3 +12,4 @@ pub mod Build
 pub mod Info
 pub mod Runs
 pub mod QueryMessages
+pub mod Trial

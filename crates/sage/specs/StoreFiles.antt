@@ -22,10 +22,10 @@ IsWritten (Some files) after name bytes = after ≡ Some (map.insert files name 
 abbrev pub IsWrittenInPart : Option Files → Option Files → List ℕ → List ℕ → Type 0
 IsWrittenInPart before after name bytes = (after ≡ before) ⊎ ((n : ℕ) × IsWritten before after name (take n bytes))
 
--- the bytes are the store file of triples, and the lines tell its header
+-- the bytes are the store file of triples, of format 2, and the lines tell its header
 pub record IsStoreFile (triples : List Triple) (image lines : List ℕ) : Type 0 where
-  pub is_image : IsImage triples image
-  pub holds : Holds triples image
+  pub is_image : IsImage triples 2 image
+  pub holds : Holds triples 2 image
   pub tell : lines ≡ header_lines holds.header
 
 -- the bytes are the store file of a document's data, and the lines tell its header
@@ -48,7 +48,7 @@ pub record TellHeader (block : List ℕ) (count : ℕ) (lines : List ℕ) : Type
 pub record IsToldOf (file : List ℕ) (before after : SinkState) : Type 0 where
   pub header : Header
   pub is_header : HasHeader file header
-  pub of_data : (triples : List Triple) (holds : Holds triples (image_of file)) → header ≡ holds.header
+  pub of_data : (triples : List Triple) (format : ℕ) (holds : Holds triples format (image_of file)) → header ≡ holds.header
   pub got : HasGot before after (header_lines header)
 
 -- a prefix of the lines of the header of a file was put out

@@ -89,6 +89,7 @@ Tries data_name query_name quanta before after (Err (refusals.Query cause)) = Is
 Tries data_name query_name quanta before after (Err refusals.Output) = IsAnsweredInPart data_name query_name quanta before after
 Tries data_name query_name quanta before after (Err refusals.Words) = ⊥
 Tries data_name query_name quanta before after (Err refusals.NotAStore) = ⊥
+Tries data_name query_name quanta before after (Err (refusals.DamagedStore block)) = ⊥
 
 -- Where a status of `try` has to come, want of memory aside.
 pub record TryMust (data_name query_name : List ℕ) (before after : Io) (status : ℕ) : Type 0 where

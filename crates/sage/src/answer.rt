@@ -20,7 +20,7 @@ use pattern_page::{PageFault, Part, counts_text, follow_pages, push_header};
 use sage_outside::{Blocks, NeverBlocks, StoreFault};
 use std::alloc::Global;
 use term_core::{Items, Memory, Text, Triple};
-use triple_store::Store;
+use triple_store::{OpenFault, Store};
 
 /// The text of an answer, and the line that says how it was made: the pages, their steps, and the
 /// length in bytes of the longest suspended plan.
@@ -98,6 +98,16 @@ fn answer_opened<B: Blocks>(
     (answer, store.close())
 }
 
+/// The one fault for which a store file in memory is not opened.
+fn want_of(fault: OpenFault) -> Memory
+    requires { fault ≡ OpenFault.Memory }
+{
+    match fault {
+        OpenFault::Memory => Memory,
+        _ => unreachable!(),
+    }
+}
+
 /// The answer over a store file in memory, in pages of as many steps as the quanta say.
 fn answer_image(
     alloc: Global,
@@ -105,13 +115,13 @@ fn answer_image(
     select: &Select,
     quanta: &[u32],
 ) -> Result<Answer, Memory>
-    requires held { (L : List Triples) × Holds L image.now }
+    requires held { (L : List Triples) × Holds L 2 image.now }
     requires some { AreQuanta quanta.now }
     requires variables { AreVariables select.now.names }
-    ensures { (L : List Triples) → Holds L image.now
+    ensures { (L : List Triples) → Holds L 2 image.now
         → IfOk result (λ answer. AnswersOver L select.now.names select.now.pattern quanta.now answer.text.items (string_bytes answer.counts)) }
 {
-    match Store::open(NeverBlocks::new(image)) {
+    match Store::open(alloc, NeverBlocks::new(image)) {
         Ok(store) => {
             let (answer, _blocks) = answer_opened(alloc, store, select, quanta);
             match answer {
@@ -119,7 +129,7 @@ fn answer_image(
                 Err(fault) => Err(memory_of(fault)),
             }
         }
-        Err(_) => unreachable!(),
+        Err(unopened) => Err(want_of(unopened.fault)),
     }
 }
 

@@ -45,8 +45,8 @@ fn want_of(fault: HeaderFault) -> Memory
 
 /// The lines of the header of a store file in memory.
 fn image_lines(alloc: Global, image: &[u8]) -> Result<Vec<u8>, Memory>
-    requires held { (L : List Triples) × Holds L image.now }
-    ensures { (L : List Triples) (holds : Holds L image.now) → IfOk result (λ lines. lines.items ≡ header_lines holds.header) }
+    requires held { (L : List Triples) × Holds L 2 image.now }
+    ensures { (L : List Triples) (holds : Holds L 2 image.now) → IfOk result (λ lines. lines.items ≡ header_lines holds.header) }
 {
     let (lines, _blocks) = header_lines(alloc, NeverBlocks::new(image));
     match lines {

@@ -26,13 +26,13 @@ pub(crate) fn read_data(alloc: Global, document: Vec<u8>) -> Result<Items<Triple
     }
 }
 
-/// The store file of triples, which are let go.
+/// The store file of triples, which are let go, of format 2.
 pub(crate) fn image_of(alloc: Global, triples: Items<Triple>) -> Result<Vec<u8>, Memory>
     requires limits { AreWithinLimits triples }
     requires allowed { All IsAllowed triples }
     requires spelled { All AreSpelled triples }
-    ensures is { IfOk result (λ image. IsImage triples image.items) }
-    ensures holds { IfOk result (λ image. Holds triples image.items) }
+    ensures is { IfOk result (λ image. IsImage triples 2 image.items) }
+    ensures holds { IfOk result (λ image. Holds triples 2 image.items) }
 {
     image(alloc, triples.as_slice())
 }

@@ -3,7 +3,7 @@ ghost use Rattle.std.specs.Prelude.{◌≡◌, [], string_bytes, IfOk};
 ghost use Rattle.sage.specs.World.{sink_state};
 ghost use Rattle.sage.specs.Data.{data_message as message_of_data};
 ghost use Rattle.sage.specs.QueryMessages.{size_word as word_of_size, query_message as message_of_query};
-ghost use Rattle.sage.specs.Ending.{Ends, IsTold, file_message as message_of_file};
+ghost use Rattle.sage.specs.Ending.{Ends, IsTold, file_message as message_of_file, block_message as message_of_block};
 
 use crate::refusal::{QueryRefusal, Refusal};
 use nt_text::DataFault;
@@ -79,6 +79,13 @@ fn query_message(alloc: Global, cause: QueryRefusal) -> Result<String, Memory>
     Ok(message?)
 }
 
+/// The message for a block of a store file that is not well formed.
+fn block_message(alloc: Global, block: u32) -> Result<String, Memory>
+    ensures { IfOk result (λ message. string_bytes message ≡ message_of_block block) }
+{
+    Ok(format!(in alloc; "sage: store block {block}\n")?)
+}
+
 /// Tells standard error a message, and answers the status. A failure of standard error changes
 /// nothing else.
 #[tactic(auto, using(crate::proofs::Sinks::put_told))]
@@ -107,6 +114,10 @@ pub(crate) fn end<E: Sink>(alloc: Global, err: &mut E, ended: Result<Text, Refus
             Err(_) => tell(err, b"sage: memory\n", 1),
         },
         Err(Refusal::NotAStore) => tell(err, b"sage: not a store\n", 5),
+        Err(Refusal::DamagedStore { block }) => match block_message(alloc, block) {
+            Ok(message) => tell(err, message.as_bytes(), 5),
+            Err(_) => tell(err, b"sage: memory\n", 1),
+        },
         Err(Refusal::Query { cause }) => match query_message(alloc, cause) {
             Ok(message) => tell(err, message.as_bytes(), 6),
             Err(_) => tell(err, b"sage: memory\n", 1),

@@ -2,11 +2,9 @@
 ghost use Rattle.std.specs.Prelude.{◌≡◌, ◌≤◌, ◌⊎◌, ℕ, List, Err, length, IfOk, IfErr};
 ghost use Rattle.sage_outside.specs.Causes.{Rose};
 ghost use Rattle.sage_outside.specs.Shelf.{Lacks};
-ghost use Rattle.store_image.specs.declared.header.Header.{Header as Headers};
 ghost use Rattle.sage.specs.Told.{TellsFile};
-ghost use Rattle.sage.specs.StoreFiles.{HasHeader};
 ghost use Rattle.sage.specs.World.{io};
-ghost use Rattle.sage.specs.Info.{OverFile, AreHeaderLines, NoHeader, IsHeaderRefusal, WhyNoLines, Informs};
+ghost use Rattle.sage.specs.Info.{OverFile, AreHeaderLines, NoStore, HasDamagedHeader, IsHeaderRefusal, WhyNoLines, Informs};
 
 use crate::ending::nothing;
 use crate::info_lines::{HeaderFault, header_lines};
@@ -22,6 +20,7 @@ fn header_refusal(alloc: Global, fault: HeaderFault, name: &Text) -> Refusal
     match fault {
         HeaderFault::Memory => Refusal::Memory,
         HeaderFault::NotAStore => Refusal::NotAStore,
+        HeaderFault::Damaged => Refusal::DamagedStore { block: 0 },
         HeaderFault::Unread => file_refusal(alloc, name),
     }
 }
@@ -32,7 +31,9 @@ fn opened_lines<S: Shelf>(alloc: Global, shelf: &mut S, name: &str) -> Result<Ve
     ensures told { (file : List ℕ) → TellsFile (S.files shelf.old) name.now file
         → IfOk result (λ lines. AreHeaderLines lines.items file) }
     ensures not_a_store { (file : List ℕ) → TellsFile (S.files shelf.old) name.now file
-        → result ≡ Err HeaderFault.NotAStore → (h : Headers) → HasHeader file h → ⊥ }
+        → result ≡ Err HeaderFault.NotAStore → NoStore file }
+    ensures damaged { (file : List ℕ) → TellsFile (S.files shelf.old) name.now file
+        → result ≡ Err HeaderFault.Damaged → HasDamagedHeader 0 file }
     ensures failed { result ≡ Err HeaderFault.Unread → Lacks (S.files shelf.old) name.now ⊎ Rose (S.faults shelf.old) (S.faults shelf.new) }
     ensures there { Lacks (S.files shelf.old) name.now → result ≡ Err HeaderFault.Unread }
 {

@@ -2,8 +2,8 @@
 ghost use Rattle.std.specs.Prelude.{◌≡◌, ◌<◌, ◌++◌, ℕ, List, Err, flat_map, string_bytes, IfOk, OnOk};
 ghost use Rattle.sage_outside.specs.Causes.{Rose};
 ghost use Rattle.sage_outside.specs.Blocks.{HasRead, Tells as TellsBytes, block_at};
-ghost use Rattle.store_image.specs.declared.header.Header.{Header as Headers};
-ghost use Rattle.store_image.specs.Header.{IsHeader};
+ghost use Rattle.store_image.specs.Header.{IsBroken};
+ghost use Rattle.triple_store.specs.Stores.{IsNoStore};
 ghost use Rattle.sage.specs.InfoLines.{hex_digit, hex_byte, hex_of, number_lines, header_lines};
 ghost use Rattle.sage.specs.StoreFiles.{TellHeader};
 
@@ -19,6 +19,8 @@ pub enum HeaderFault {
     Memory,
     /// The first block is no header of so many blocks.
     NotAStore,
+    /// The first block has the mark of format 2 and not its tag.
+    Damaged,
     /// The file is not there, or could not be opened, or its first block could not be read.
     Unread,
 }
@@ -54,14 +56,14 @@ fn number_lines<B: Blocks>(alloc: Global, store: &Store<B>) -> Result<String, Me
     ensures { IfOk result (λ lines. string_bytes lines ≡ number_lines store.now.header) }
 {
     let Info {
+        format,
         terms,
         triples,
         longest,
         blocks,
-        ..
     } = store.info();
     Ok(format!(in alloc;
-        "format 0\nterms {terms}\ntriples {triples}\nlongest {longest}\nblocks {blocks}\n"
+        "format {format}\nterms {terms}\ntriples {triples}\nlongest {longest}\nblocks {blocks}\n"
     )?)
 }
 
@@ -85,10 +87,12 @@ pub(crate) fn header_lines<B: Blocks>(alloc: Global, blocks: B) -> (Result<Vec<u
     ensures told { (image : List ℕ) → TellsBytes (B.device blocks).image image
         → IfOk result.0 (λ lines. TellHeader (block_at 0 image) (B.device blocks).count lines.items) }
     ensures not_a_store { (image : List ℕ) → TellsBytes (B.device blocks).image image
-        → result.0 ≡ Err HeaderFault.NotAStore → (h : Headers) → IsHeader (block_at 0 image) (B.device blocks).count h → ⊥ }
+        → result.0 ≡ Err HeaderFault.NotAStore → IsNoStore (block_at 0 image) (B.device blocks).count }
+    ensures damaged { (image : List ℕ) → TellsBytes (B.device blocks).image image
+        → result.0 ≡ Err HeaderFault.Damaged → IsBroken (block_at 0 image) }
     ensures failed { result.0 ≡ Err HeaderFault.Unread → Rose (B.device blocks).faults (B.device result.1).faults }
 {
-    match Store::open(blocks) {
+    match Store::open(alloc, blocks) {
         Ok(store) => match store_lines(alloc, &store) {
             Ok(lines) => (Ok(lines), store.close()),
             Err(_) => (Err(HeaderFault::Memory), store.close()),
@@ -96,7 +100,8 @@ pub(crate) fn header_lines<B: Blocks>(alloc: Global, blocks: B) -> (Result<Vec<u
         Err(unopened) => match unopened.fault {
             OpenFault::NotAStore => (Err(HeaderFault::NotAStore), unopened.blocks),
             OpenFault::Blocks => (Err(HeaderFault::Unread), unopened.blocks),
-            _ => unreachable!(),
+            OpenFault::Damaged { .. } => (Err(HeaderFault::Damaged), unopened.blocks),
+            OpenFault::Memory => (Err(HeaderFault::Memory), unopened.blocks),
         },
     }
 }

@@ -11,8 +11,10 @@ mod info_lines;
 mod refusal;
 mod select;
 mod top;
+mod trial;
 mod try_query;
 mod words;
 
 pub use top::run;
+pub use trial::trial_triples;
 pub use words::{Command, WordsFault, read_words};

@@ -29,6 +29,8 @@ pub enum Refusal {
     Data { fault: DataFault },
     /// The file begins with no header of a store file of so many blocks.
     NotAStore,
+    /// That block of the store file is not well formed.
+    DamagedStore { block: u32 },
     /// The query is not answered.
     Query { cause: QueryRefusal },
     /// The output failed.

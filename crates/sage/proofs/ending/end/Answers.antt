@@ -1,4 +1,5 @@
 use Rattle.std.proofs.Common.{Err, refl, ap, ◌∙◌}
+use Rattle.sage.specs.declared.refusal.Refusal.TheVariants as refusals
 use Rattle.sage.proofs.Sinks.{ended_so}
 use Rattle.sage.proofs.ending.end.Goals as goal
 
@@ -22,3 +23,8 @@ pub returns-in-Ok-file_message : goal.returns-in-Ok-file_message
 returns-in-Ok-file_message g c =
     ended_so _ _ _ _ _ _ (c.in-Err-File.is ∙ ap Err c.in-Err-File.field-0-is) c.tell-in-Ok-file_message.ensures.status
     (c.deref.ensures.value ∙ c.in-Ok-file_message.ensures) c.tell-in-Ok-file_message.ensures.told
+
+pub returns-in-Ok-block_message : goal.returns-in-Ok-block_message
+returns-in-Ok-block_message g c =
+    ended_so _ _ _ _ _ _ (c.in-Err-DamagedStore.is ∙ ap Err (c.in-Err-DamagedStore.field-0-is ∙ ap refusals.DamagedStore c.in-Err-DamagedStore.block-is)) c.tell-in-Ok-block_message.ensures.status
+    (c.as_bytes-in-Ok-block_message.ensures.value ∙ c.in-Ok-block_message.ensures) c.tell-in-Ok-block_message.ensures.told
