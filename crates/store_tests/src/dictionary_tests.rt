@@ -1,6 +1,6 @@
 //! Dictionaries in blocks of memory.
 
-use crate::making::with_byte;
+use crate::making::{put_tags, with_byte};
 use sage_outside::{Blocks, MemBlocks, StoreFault};
 use std::alloc::{AllocError, Global};
 use std::process::Abort;
@@ -116,6 +116,9 @@ fn in_blocks(alloc: Global, made: &DictImage, payload: u32) -> Result<Made, Allo
     put_blocks(&mut image, &numbers, payload)?;
     let records = blocks_of(&image);
     put_blocks(&mut image, made.records.as_slice(), payload)?;
+    if payload == 4080 {
+        put_tags(&mut image);
+    }
     let dict = Dict {
         places: 1,
         records,
@@ -200,8 +203,7 @@ fn places_and_records_are_appended(rt: HostRuntime) -> Result<(), Fail> {
 
 #[test]
 fn records_follow_one_another(rt: HostRuntime) -> Result<(), Fail> {
-    let terms = three_terms(rt.alloc())?;
-    let made = built(&rt, rt.alloc(), terms)?;
+    let made = built(&rt, rt.alloc(), three_terms(rt.alloc())?)?;
     let records = b"\0b\x01i:\x02\0\0\0\x01\0\0\0\x02denxy";
     assert_eq!(rt; made.places.as_slice(), [0, 2, 5, 19].as_slice());
     assert!(rt; made.records.as_slice() == records.as_slice() && made.longest == 14);
@@ -380,8 +382,7 @@ fn fault_of(
     byte: u8,
     id: u32,
 ) -> Result<Option<StoreFault>, Fail> {
-    let terms = three_terms(alloc)?;
-    let made = dictionary(rt, alloc, terms, 4096)?;
+    let made = dictionary(rt, alloc, three_terms(alloc)?, 4096)?;
     let image = with_byte(alloc, &made.image, place, byte)?;
     let mut blocks = MemBlocks::new(&image, Vec::new(alloc));
     Ok(term_in(rt, alloc, &made.dict, &mut blocks, id).err())

@@ -1,7 +1,7 @@
 //! Documents, their store files, and what a store over such a file answers.
 
 use nt_text::read_document;
-use sage_outside::{Blocks, MemBlocks, ReadFault, StoreFault};
+use sage_outside::{Blocks, MemBlocks, ReadFault, StoreFault, tag};
 use std::alloc::{AllocError, Global};
 use std::process::Abort;
 use std::test::Fail;
@@ -9,9 +9,9 @@ use store_image::{have_short_terms, image};
 use term_core::{IdTriple, Items, Pattern, Place, Term, Text, Triple};
 use triple_store::{OpenFault, Range, Store};
 
-/// Six blocks: the header; the numbers 0, 11, 22, 33 and 82; the records; and the entries
-/// 0 2 1, 0 2 3 by subject, 2 1 0, 2 3 0 by predicate, 1 0 2, 3 0 2 by object. By rank the terms
-/// are `http://e/a`, `http://e/b`, `http://e/p` and the string.
+/// Six blocks in each format: the header; the numbers 0, 11, 22, 33 and 82; the records; and trees of one
+/// block with the entries 0 2 1, 0 2 3 by subject, 2 1 0, 2 3 0 by predicate, 1 0 2, 3 0 2 by object. By
+/// rank the terms are `http://e/a`, `http://e/b`, `http://e/p` and the string.
 pub(crate) const TWO: &str =
     "<http://e/a> <http://e/p> <http://e/b> .\n<http://e/a> <http://e/p> \"x\" .\n";
 
@@ -26,8 +26,23 @@ pub(crate) fn triples_of(alloc: Global, document: &str) -> Result<Items<Triple>,
     }
 }
 
-/// The store file of a document.
-pub(crate) fn image_of(alloc: Global, document: &str) -> Result<Vec<u8>, Fail> {
+/// The store file of a document in format 1 or 2.
+pub(crate) fn image_of(alloc: Global, document: &str, format: u8) -> Result<Vec<u8>, Fail> {
+    match read_document(alloc, document.as_bytes()) {
+        Ok(triples) => {
+            let few = triples.len() <= 4194303 && have_short_terms(triples.as_slice());
+            if few && (format == 1 || format == 2) {
+                Ok(store_image::image_of(alloc, triples.as_slice(), format)?)
+            } else {
+                Err("too large")?
+            }
+        }
+        Err(_) => Err("no document")?,
+    }
+}
+
+/// The store file of a document, as it is written where no format is named.
+pub(crate) fn image_of_data(alloc: Global, document: &str) -> Result<Vec<u8>, Fail> {
     match read_document(alloc, document.as_bytes()) {
         Ok(triples) => {
             if triples.len() <= 4194303 && have_short_terms(triples.as_slice()) {
@@ -40,13 +55,47 @@ pub(crate) fn image_of(alloc: Global, document: &str) -> Result<Vec<u8>, Fail> {
     }
 }
 
+/// The formats.
+pub(crate) const FORMATS: [u8; 2] = [1, 2];
+
+/// Appends a triple of the generated data: `n` leads to `next`, or has a number for its value.
+fn push_trial(out: &mut String, alloc: Global, n: u32, next: u32) -> Result<(), AllocError> {
+    let line = format!(in alloc;
+        "<http://t.example/n{n}> <http://t.example/next> <http://t.example/n{next}> .\n"
+    )?;
+    out.push_str(&line)
+}
+
+/// Appends the value of `n`.
+fn push_value(out: &mut String, alloc: Global, n: u32, value: u32) -> Result<(), AllocError> {
+    let line = format!(in alloc;
+        "<http://t.example/n{n}> <http://t.example/val> \"{value}\"^^<http://www.w3.org/2001/XMLSchema#integer> .\n"
+    )?;
+    out.push_str(&line)
+}
+
+/// Generated data: for each number below `count` where it leads to and its value, 2 triples.
+pub(crate) fn trial(alloc: Global, count: u32) -> Result<String, Fail> {
+    let mut lines = String::new(alloc);
+    for n in 0..count {
+        push_trial(
+            &mut lines,
+            alloc,
+            n,
+            ((7 * n as u64 + 1) % count as u64) as u32,
+        )?;
+        push_value(&mut lines, alloc, n, n % 10)?;
+    }
+    Ok(lines)
+}
+
 /// Appends a triple whose IRIs begin with `base`, of the object with that number.
 fn push_numbered(out: &mut String, alloc: Global, base: &str, n: u32) -> Result<(), AllocError> {
     let line = format!(in alloc; "<{base}s> <{base}p> <{base}{n}> .\n")?;
     out.push_str(&line)
 }
 
-/// 342 triples, whose lists take 4,104 bytes each: entry 341 lies in two blocks. The objects have the
+/// 342 triples, whose trees have two levels: two blocks of entries, and one above. The objects have the
 /// ranks 0 to 341, the predicate has 342 and the subject 343.
 pub(crate) fn many(alloc: Global, base: &str) -> Result<String, Fail> {
     let mut lines = String::new(alloc);
@@ -77,6 +126,51 @@ pub(crate) fn with_byte(
         changed[place] = byte;
     }
     Ok(changed)
+}
+
+/// Puts the tag of a block of that number behind its payload.
+fn put_tag(number: usize, block: &mut [u8]) {
+    if number <= 4_294_967_295 && block.len() >= 4096 {
+        let tag = tag(number as u32, &block[..4080]);
+        block[4080..4096].copy_from_slice(&tag);
+    }
+}
+
+/// Turns the lowest bit of a byte.
+pub(crate) fn turn(bytes: &mut [u8], place: usize) {
+    if place < bytes.len() {
+        bytes[place] ^= 1;
+    }
+}
+
+/// Puts the tag of each block behind its payload.
+pub(crate) fn put_tags(image: &mut Vec<u8>) {
+    put_tags_from(image, 0)
+}
+
+/// Puts the tags of the blocks from that number on.
+pub(crate) fn put_tags_from(image: &mut Vec<u8>, first: usize) {
+    for number in first..image.len() / 4096 {
+        let at = 4096 * number;
+        if at + 4096 <= image.len() {
+            put_tag(number, &mut image[at..at + 4096]);
+        }
+    }
+}
+
+/// A file of a format with another byte at a place, where in format 2 the tags agree again.
+pub(crate) fn changed(
+    alloc: Global,
+    format: u8,
+    bytes: &[u8],
+    place: usize,
+    byte: u8,
+) -> Result<Vec<u8>, AllocError> {
+    let mut file = with_byte(alloc, bytes, place, byte)?;
+    if format == 2 {
+        put_tags(&mut file);
+    }
+    Ok(file)
 }
 
 /// The string `x` by its name, and any other name as an IRI.
@@ -127,10 +221,11 @@ pub(crate) fn ranks(t: IdTriple) -> (u32, u32, u32) {
 }
 
 pub(crate) fn store_of<'a>(
+    alloc: Global,
     bytes: &'a [u8],
     fails: Vec<u64>,
 ) -> Result<Store<MemBlocks<'a>>, OpenFault> {
-    match Store::open(MemBlocks::new(bytes, fails)) {
+    match Store::open(alloc, MemBlocks::new(bytes, fails)) {
         Ok(store) => Ok(store),
         Err(unopened) => Err(unopened.fault),
     }

@@ -1,6 +1,6 @@
 //! Pages of a plan of one pattern over a store file in memory, states, and lines of answers.
 
-use crate::making::{image_of, term};
+use crate::making::{image_of_data, term};
 use pattern_page::{
     Counts, Page, PageFault, Part, State, follow_pages, parse_state, push_header, push_line,
     push_state,
@@ -18,8 +18,8 @@ fn text(alloc: Global, text: &str) -> Result<Text, Fail> {
     Ok(Text::from_bytes(alloc, text.as_bytes())?)
 }
 
-fn open(file: &[u8]) -> Result<Store<NeverBlocks<'_>>, Fail> {
-    match Store::open(NeverBlocks::new(file)) {
+fn open(alloc: Global, file: &[u8]) -> Result<Store<NeverBlocks<'_>>, Fail> {
+    match Store::open(alloc, NeverBlocks::new(file)) {
         Ok(store) => Ok(store),
         Err(_) => Err("not a store")?,
     }
@@ -80,7 +80,7 @@ fn counts_in(
     names: &[Text],
     wanted: &[u8],
 ) -> Result<Option<Counts>, Fail> {
-    let mut store = open(file)?;
+    let mut store = open(alloc, file)?;
     Ok(counts_over(alloc, &mut store, pattern, names, wanted)?)
 }
 
@@ -93,7 +93,7 @@ fn counts_of_file(alloc: Global, file: &[u8], wanted: &[u8]) -> Result<Option<Co
 
 /// The same of the document.
 fn counts_of(alloc: Global, wanted: &[u8]) -> Result<Option<Counts>, Fail> {
-    let file = image_of(alloc, DOCUMENT)?;
+    let file = image_of_data(alloc, DOCUMENT)?;
     counts_of_file(alloc, &file, wanted)
 }
 
@@ -136,7 +136,7 @@ fn page_in(
     pattern: &Pattern,
     next: Option<&[u8]>,
 ) -> Result<Option<Page>, Fail> {
-    let mut store = open(file)?;
+    let mut store = open(alloc, file)?;
     page_or_none(page_of(alloc, &mut store, pattern, next))
 }
 
@@ -153,7 +153,7 @@ fn page_of_file(
 
 /// The same of the document.
 fn page_at(alloc: Global, object: &str, next: Option<&[u8]>) -> Result<Option<Page>, Fail> {
-    let file = image_of(alloc, DOCUMENT)?;
+    let file = image_of_data(alloc, DOCUMENT)?;
     page_of_file(alloc, &file, object, next)
 }
 

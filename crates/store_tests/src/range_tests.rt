@@ -1,15 +1,15 @@
 //! Ranges, places and counts of stores in blocks of memory. Expected values are worked out by hand.
 
 use crate::making::{
-    THREE, TWO, entry_in, ids, image_of, pattern, place_in, store_of, term, term_in, triple_in,
-    with_byte,
+    FORMATS, THREE, TWO, changed, ids, image_of, image_of_data, pattern, place_in, store_of,
+    triple_in,
 };
 use btree_scan::Prefix;
-use sage_outside::{Blocks, ReadFault, StoreFault};
+use sage_outside::{Blocks, StoreFault};
 use std::alloc::Global;
 use std::process::Abort;
 use std::test::Fail;
-use term_core::{Pattern, Term};
+use term_core::Pattern;
 use triple_store::{Range, Store};
 
 /// A pattern, with `?` for a variable and `_` for a blank node, the order that it reads, and the
@@ -76,7 +76,7 @@ fn has_range(
     row: &Row,
 ) -> Result<bool, Fail> {
     let &(_, _, _, order, wanted) = row;
-    let mut store = store_of(bytes, Vec::new(alloc))?;
+    let mut store = store_of(alloc, bytes, Vec::new(alloc))?;
     let (range, count) = range_and_count(alloc, &mut store, asked)?;
     let listed = are_listed(rt, &mut store, &range, wanted);
     Ok(listed && range.order == order && count as usize == wanted.len())
@@ -90,9 +90,11 @@ fn agrees(rt: &impl Abort, alloc: Global, bytes: &[u8], row: &Row) -> Result<boo
 
 #[test]
 fn patterns_have_ranges_and_counts(rt: HostRuntime) -> Result<(), Fail> {
-    let bytes = image_of(rt.alloc(), THREE)?;
-    for row in ROWS.as_slice() {
-        assert!(rt; agrees(&rt, rt.alloc(), &bytes, row)?);
+    for &format in FORMATS.as_slice() {
+        let bytes = image_of(rt.alloc(), THREE, format)?;
+        for row in ROWS.as_slice() {
+            assert!(rt; agrees(&rt, rt.alloc(), &bytes, row)?);
+        }
     }
     Ok(())
 }
@@ -108,7 +110,7 @@ const PLACES: [((u32, u32, u32), Option<u32>); 5] = [
 
 #[test]
 fn triples_have_places(rt: HostRuntime) -> Result<(), Fail> {
-    let bytes = image_of(rt.alloc(), THREE)?;
+    let bytes = image_of_data(rt.alloc(), THREE)?;
     let asked = pattern(rt.alloc(), "?", "i:p", "?")?;
     for &(t, wanted) in PLACES.as_slice() {
         assert!(rt; place_of(&rt, rt.alloc(), &bytes, &asked, t)? == Ok(wanted));
@@ -124,7 +126,7 @@ fn place_of(
     asked: &Pattern,
     t: (u32, u32, u32),
 ) -> Result<Result<Option<u32>, StoreFault>, Fail> {
-    let mut store = store_of(bytes, Vec::new(alloc))?;
+    let mut store = store_of(alloc, bytes, Vec::new(alloc))?;
     let range = store.range_of(alloc, asked)?;
     Ok(place_in(rt, &mut store, &range, &ids(t)))
 }
@@ -149,8 +151,8 @@ fn count_all<B: Blocks>(store: &mut Store<B>) -> u32 {
 
 #[test]
 fn the_data_have_their_triples_alone(rt: HostRuntime) -> Result<(), Fail> {
-    let bytes = image_of(rt.alloc(), THREE)?;
-    let mut store = store_of(&bytes, Vec::new(rt.alloc()))?;
+    let bytes = image_of_data(rt.alloc(), THREE)?;
+    let mut store = store_of(rt.alloc(), &bytes, Vec::new(rt.alloc()))?;
     assert_eq!(rt; count_all(&mut store), 3);
     for &t in TRIPLES.as_slice() {
         assert!(rt; store.has(&ids(t)) == Ok(true));
@@ -171,8 +173,8 @@ const RANGES: [(u8, (u32, u32)); 3] = [(0, (3, 3)), (1, (0, 2)), (2, (3, 3))];
 
 #[test]
 fn keys_have_places(rt: HostRuntime) -> Result<(), Fail> {
-    let bytes = image_of(rt.alloc(), THREE)?;
-    let mut store = store_of(&bytes, Vec::new(rt.alloc()))?;
+    let bytes = image_of_data(rt.alloc(), THREE)?;
+    let mut store = store_of(rt.alloc(), &bytes, Vec::new(rt.alloc()))?;
     for &(order, t, wanted) in BOUNDS.as_slice() {
         assert!(rt; order <= 2 && store.lower_bound(order, &ids(t)) == Ok(wanted));
     }
@@ -181,8 +183,8 @@ fn keys_have_places(rt: HostRuntime) -> Result<(), Fail> {
 
 #[test]
 fn fronts_have_places(rt: HostRuntime) -> Result<(), Fail> {
-    let bytes = image_of(rt.alloc(), THREE)?;
-    let mut store = store_of(&bytes, Vec::new(rt.alloc()))?;
+    let bytes = image_of_data(rt.alloc(), THREE)?;
+    let mut store = store_of(rt.alloc(), &bytes, Vec::new(rt.alloc()))?;
     let prefix = Prefix {
         len: 1,
         a: 2,
@@ -209,155 +211,22 @@ fn answers_as_broken<B: Blocks>(rt: &impl Abort, store: &mut Store<B>, range: &R
 
 /// The same of the range of a pattern, over the file of a store.
 fn is_broken(rt: &impl Abort, alloc: Global, bytes: &[u8], asked: &Pattern) -> Result<bool, Fail> {
-    let mut store = store_of(bytes, Vec::new(alloc))?;
+    let mut store = store_of(alloc, bytes, Vec::new(alloc))?;
     let range = store.range_of(alloc, asked)?;
     Ok(answers_as_broken(rt, &mut store, &range))
 }
 
-fn broken(alloc: Global) -> Result<Vec<u8>, Fail> {
-    let bytes = image_of(alloc, TWO)?;
-    Ok(with_byte(alloc, &bytes, 3 * 4096 + 12 + 11, 9)?)
+fn broken(alloc: Global, format: u8) -> Result<Vec<u8>, Fail> {
+    let bytes = image_of(alloc, TWO, format)?;
+    Ok(changed(alloc, format, &bytes, 3 * 4096 + 12 + 11, 9)?)
 }
 
 #[test]
 fn a_broken_entry_is_damaged_in_a_range_and_not_in_a_search(rt: HostRuntime) -> Result<(), Fail> {
-    let bytes = broken(rt.alloc())?;
     let asked = pattern(rt.alloc(), "?", "?", "?")?;
-    assert!(rt; is_broken(&rt, rt.alloc(), &bytes, &asked)?);
-    Ok(())
-}
-
-fn as_store(fault: ReadFault) -> StoreFault {
-    match fault {
-        ReadFault::Blocks => StoreFault::Blocks,
-        ReadFault::Damaged { block } => StoreFault::Damaged { block },
-    }
-}
-
-/// What is asked of a store: the places of a predicate, and a term.
-#[derive(Drop)]
-struct Asked {
-    pattern: Pattern,
-    term: Term,
-}
-
-fn questions(alloc: Global) -> Result<Asked, Fail> {
-    let pattern = pattern(alloc, "?", "http://e/p", "?")?;
-    let term = term(alloc, "http://e/p")?;
-    Ok(Asked { pattern, term })
-}
-
-/// Whether the term of rank 2 is the one that is asked for.
-fn term_answer<B: Blocks>(
-    rt: &impl Abort,
-    alloc: Global,
-    store: &mut Store<B>,
-    asked: &Asked,
-) -> Result<u32, StoreFault> {
-    let found = term_in(rt, alloc, store, 2)?;
-    Ok(u32::from(found == asked.term))
-}
-
-/// The object of the second triple of the range, or the place of a triple.
-fn range_answer<B: Blocks>(
-    rt: &impl Abort,
-    alloc: Global,
-    store: &mut Store<B>,
-    asked: &Asked,
-    call: u32,
-) -> Result<u32, StoreFault> {
-    let range = store.range_of(alloc, &asked.pattern)?;
-    if call == 6 {
-        triple_in(rt, store, &range, 1).map(|t| t.o)
-    } else {
-        place_in(rt, store, &range, &ids((0, 2, 3))).map(|place| place.unwrap_or(9))
-    }
-}
-
-/// A call of a store of the two triples, by a number, and a number of its answer.
-fn answer<B: Blocks>(
-    rt: &impl Abort,
-    alloc: Global,
-    store: &mut Store<B>,
-    asked: &Asked,
-    call: u32,
-) -> Result<u32, StoreFault> {
-    let t = ids((0, 2, 3));
-    match call {
-        0 => term_answer(rt, alloc, store, asked),
-        1 => store.id_of(alloc, &asked.term).map(|id| id.unwrap_or(9)),
-        2 => store.count(alloc, &asked.pattern),
-        3 => store.has(&t).map(u32::from).map_err(as_store),
-        4 => store.lower_bound(1, &t).map_err(as_store),
-        5 => entry_in(rt, store, 2, 1).map(|t| t.o).map_err(as_store),
-        _ => range_answer(rt, alloc, store, asked, call),
-    }
-}
-
-/// The calls, and the numbers of their answers.
-const CALLS: [(u32, u32); 8] = [
-    (0, 1),
-    (1, 2),
-    (2, 2),
-    (3, 1),
-    (4, 1),
-    (5, 3),
-    (6, 3),
-    (7, 1),
-];
-
-/// How many blocks a store of the bytes has read when it was opened and has answered the call, if it
-/// answers that number.
-fn reads_of(
-    rt: &impl Abort,
-    alloc: Global,
-    bytes: &[u8],
-    asked: &Asked,
-    (call, wanted): (u32, u32),
-) -> Result<u64, Fail> {
-    let mut store = store_of(bytes, Vec::new(alloc))?;
-    let found = answer(rt, alloc, &mut store, asked, call);
-    assert!(rt; found == Ok(wanted));
-    Ok(store.close().reads())
-}
-
-/// Whether a call answers `Blocks` where that read fails, and the next call its number.
-fn tells_of(
-    rt: &impl Abort,
-    alloc: Global,
-    bytes: &[u8],
-    asked: &Asked,
-    (call, wanted): (u32, u32),
-    failing: u64,
-) -> Result<bool, Fail> {
-    let mut store = store_of(bytes, vec![in alloc; failing]?)?;
-    let first = answer(rt, alloc, &mut store, asked, call);
-    let second = answer(rt, alloc, &mut store, asked, call);
-    Ok(first == Err(StoreFault::Blocks) && second == Ok(wanted))
-}
-
-/// Whether each read of the call that fails is told.
-fn tells_all(
-    rt: &impl Abort,
-    alloc: Global,
-    bytes: &[u8],
-    asked: &Asked,
-    call: (u32, u32),
-) -> Result<bool, Fail> {
-    let reads = reads_of(rt, alloc, bytes, asked, call)?;
-    let mut told = reads > 1;
-    for failing in 1..reads {
-        told = tells_of(rt, alloc, bytes, asked, call, failing)? && told;
-    }
-    Ok(told)
-}
-
-#[test]
-fn each_read_that_fails_is_told(rt: HostRuntime) -> Result<(), Fail> {
-    let bytes = image_of(rt.alloc(), TWO)?;
-    let asked = questions(rt.alloc())?;
-    for &call in CALLS.as_slice() {
-        assert!(rt; tells_all(&rt, rt.alloc(), &bytes, &asked, call)?);
+    for &format in FORMATS.as_slice() {
+        let bytes = broken(rt.alloc(), format)?;
+        assert!(rt; is_broken(&rt, rt.alloc(), &bytes, &asked)?);
     }
     Ok(())
 }
