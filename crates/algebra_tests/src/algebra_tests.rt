@@ -7,7 +7,7 @@ use std::alloc::Global;
 use std::test::Fail;
 
 /// Queries, and their algebra.
-const QUERIES: [(&[u8], &str); 50] = [
+pub(crate) const QUERIES: [(&[u8], &str); 50] = [
     (b"SELECT * {}", "Bgp()"),
     (b"SELECT * { ?a <a:p> ?b }", "Bgp(?a <a:p> ?b)"),
     (

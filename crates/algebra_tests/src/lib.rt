@@ -4,6 +4,8 @@
 #[cfg(test)]
 mod algebra_tests;
 #[cfg(test)]
+mod part_tests;
+#[cfg(test)]
 mod showing;
 #[cfg(test)]
 mod split_tests;

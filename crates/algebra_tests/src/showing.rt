@@ -191,6 +191,13 @@ fn show_part(out: &mut String, part: &Part) -> Result<(), Fail> {
     Ok(())
 }
 
+/// A part's operators, its text and its variables.
+pub fn part_text(alloc: Global, part: &Part) -> Result<String, Fail> {
+    let mut out = algebra_text(alloc, &part.algebra)?;
+    show_part(&mut out, part)?;
+    Ok(out)
+}
+
 /// The tree, each part, and behind a last bar the variables of the answer.
 pub fn split_text(alloc: Global, split: &Split) -> Result<String, Fail> {
     let mut out = tree_text(alloc, &split.tree)?;

@@ -6,7 +6,7 @@ use std::alloc::Global;
 use std::test::Fail;
 
 /// Queries, and how they are cut: the tree, each part's text and variables, and the variables of the answer.
-const QUERIES: [(&[u8], &str); 22] = [
+pub(crate) const QUERIES: [(&[u8], &str); 25] = [
     (
         b"SELECT * { ?a <a:p> ?b FILTER(?b > ?a) OPTIONAL { ?b <a:q> ?c FILTER(?c > ?a) } }",
         "Filter(( ?b > ?a ), LeftJoin(0, 1, ( ?c > ?a ))) | SELECT * { ?a <a:p> ?b . } [?a ?b] | SELECT * { ?b <a:q> ?c . } [?b ?c] | ?a ?b ?c",
@@ -91,6 +91,18 @@ const QUERIES: [(&[u8], &str); 22] = [
     (
         b"SELECT * { ?b <a:p> ?a . ?a <a:q> ?b FILTER(?z) }",
         "0 | SELECT * { { ?b <a:p> ?a . ?a <a:q> ?b . } FILTER ( ?z ) } [?b ?a] | ?b ?a",
+    ),
+    (
+        b"SELECT ?x ?y { ?x <http://e/p> ?z . ?z <http://e/q> ?y }",
+        "0 | SELECT * { ?x <http://e/p> ?z . ?z <http://e/q> ?y . } [?x ?z ?y] | ?x ?y",
+    ),
+    (
+        b"PREFIX a: <a:b#> SELECT * { _:x a:p 'y'@EN ; a 'z\\n'^^a:t , _:x FILTER(?u IN (true, 'v')) }",
+        "0 | SELECT * { { _:x <a:b#p> \"y\"@en . _:x <http://www.w3.org/1999/02/22-rdf-syntax-ns#type> \"z\\n\"^^<a:b#t> . _:x <http://www.w3.org/1999/02/22-rdf-syntax-ns#type> _:x . } FILTER ( ( ?u IN ( \"true\"^^<http://www.w3.org/2001/XMLSchema#boolean> , \"v\" ) ) ) } [] | ",
+    ),
+    (
+        b"SELECT ?v { VALUES (?u ?v) { (-1 UNDEF) (UNDEF 'x'@en) } }",
+        "0 | SELECT * { VALUES ( ?u ?v ) { ( \"-1\"^^<http://www.w3.org/2001/XMLSchema#integer> UNDEF ) ( UNDEF \"x\"@en ) } } [?u ?v] | ?v",
     ),
 ];
 

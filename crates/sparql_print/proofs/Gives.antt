@@ -69,7 +69,7 @@ cut-piece whole ahead front cs at kind s ss e p l h u c =
           rw no (answered-on kind select count (slice_range whole at (at + width front)) (lexemes whole c.ts) c.answered);
     }
 
-cut-of : {cs rest : List ℕ} {ss us : List Symbol} → Gives cs ss rest us → rest ≡ [] → us ≡ [] → (whole ahead : List ℕ) (at : ℕ) → whole ≡ ahead ++ encode_utf8_all cs → length ahead ≡ at → Cut whole at cs ss
+pub cut-of : {cs rest : List ℕ} {ss us : List Symbol} → Gives cs ss rest us → rest ≡ [] → us ≡ [] → (whole ahead : List ℕ) (at : ℕ) → whole ≡ ahead ++ encode_utf8_all cs → length ahead ≡ at → Cut whole at cs ss
 unfolding lib.Utf8.encode
 cut-of (done {text} {ss}) r n whole ahead at e p =
     subst (λ t. Cut whole at t ss) (sym r) (subst (λ u. Cut whole at [] u) (sym n) (record { ts = []; end = at; lexed = stop; symbols = λ prefixes. tt; answered = λ select count. refl }))

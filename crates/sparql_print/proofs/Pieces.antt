@@ -27,7 +27,7 @@ use Rattle.sparql_print.proofs.ExprSymbols.{op_shape, sum_shape, product_shape}
 use Rattle.sparql_print.proofs.Separate.{longest-separate, sign-longest}
 use Rattle.sparql_print.proofs.Gives.{IsShown, Gives, done, gap, piece, gives-then}
 
-sign-shown : (text : List ℕ) (shape : Shape) → AreAll is_small text → reads text states.Start ≡ Some kinds.Sign → ((x : List ℕ) → reads (text ++ 32 ∷ x) states.Start ≡ None)
+pub sign-shown : (text : List ℕ) (shape : Shape) → AreAll is_small text → reads text states.Start ≡ Some kinds.Sign → ((x : List ℕ) → reads (text ++ 32 ∷ x) states.Start ≡ None)
     → bare shape ≡ bare (sign_shape (encode_utf8_all text)) → is_bracket (encode_utf8_all text) ≡ false → IsShown text (λ ss. bare shape ∷ ss)
 sign-shown text shape small token ends is answered = record {
   characters = text;
@@ -39,7 +39,7 @@ and_false : (select b : Bool) → b ≡ false → (select && b) ≡ false
 and_false true b e = e
 and_false false b e = refl
 
-word-shown : (text : List ℕ) (shape : Shape) → AreAll is_small text → IsWord text → bare shape ≡ word_symbol (encode_utf8_all text)
+pub word-shown : (text : List ℕ) (shape : Shape) → AreAll is_small text → IsWord text → bare shape ≡ word_symbol (encode_utf8_all text)
     → is_unsupported_word (encode_utf8_all text) ≡ false → is_word (encode_utf8_all text) (codes "SELECT") ≡ false → IsShown text (λ ss. bare shape ∷ ss)
 word-shown text shape small token is answered other = record {
   characters = text;

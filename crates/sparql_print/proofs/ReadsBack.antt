@@ -66,7 +66,7 @@ string-kind lexical datatype rest other true e =
     subst (λ d. IsTerm (term_symbols (terms.Literal lexical d []) rest) (terms.Literal lexical d []) rest) (sym (same_bytes datatype xsd_string e)) (terms_of.plain holds)
 string-kind lexical datatype rest other false e = rw e (terms_of.typed holds is holds other)
 
-term-back : (term : Term) (rest : List Symbol) → IsConstant term → IsTerm (term_symbols term rest) term rest
+pub term-back : (term : Term) (rest : List Symbol) → IsConstant term → IsTerm (term_symbols term rest) term rest
 term-back (terms.Iri iri) rest h = terms_of.iri holds
 term-back (terms.Blank label) rest h = absurd h
 term-back (terms.Literal lexical datatype []) rest (utf8, inl h) = string-kind lexical datatype rest h.2 (bytes_eq datatype xsd_string) refl

@@ -16,19 +16,19 @@ use Rattle.sparql_print.proofs.Pieces.{spaced-shown, open-shown, close-shown, co
 use Rattle.sparql_print.proofs.TermPieces.{name-shown}
 use Rattle.sparql_print.proofs.LiteralPieces.{constant-shown}
 
-abbrev Adds : Type 0
+abbrev pub Adds : Type 0
 Adds = List Symbol → List Symbol
 
 -- a text and its symbols, which may stand directly behind a piece
-record IsTail (text : List ℕ) (add : Adds) : Type 0 where
-  shown : IsShown text add
-  separate : (rest : List ℕ) → Separate rest → Separate (shown.characters ++ rest)
+pub record IsTail (text : List ℕ) (add : Adds) : Type 0 where
+  pub shown : IsShown text add
+  pub separate : (rest : List ℕ) → Separate rest → Separate (shown.characters ++ rest)
 
 no_tail : IsTail [] (λ ss. ss)
 no_tail = record { shown = record { characters = []; is_text = text_small [] refl; gives = λ rest ss sep. done }; separate = λ rest sep. sep }
 
 -- a space in front
-tail-of : (a : List ℕ) (f : Adds) → IsShown a f → IsTail (32 ∷ a) f
+pub tail-of : (a : List ℕ) (f : Adds) → IsShown a f → IsTail (32 ∷ a) f
 tail-of a f h = record {
   shown = record {
     characters = 32 ∷ h.characters;
@@ -38,7 +38,7 @@ tail-of a f h = record {
   separate = λ rest sep. refl;
 }
 
-then-shown : (a b : List ℕ) (f g : Adds) → IsShown a f → IsTail b g → IsShown (a ++ b) (λ ss. f (g ss))
+pub then-shown : (a b : List ℕ) (f g : Adds) → IsShown a f → IsTail b g → IsShown (a ++ b) (λ ss. f (g ss))
 then-shown a b f g h t = record {
   characters = h.characters ++ t.shown.characters;
   is_text = text_both h.characters t.shown.characters a b h.is_text t.shown.is_text;

@@ -231,9 +231,9 @@ fn push_behind(out: &mut String, alloc: Global, before: &str, inner: &Algebra) -
 /// `{ G BIND ( E AS ?v ) }`, and `{ VALUES ( ?a ?b ) { ( T UNDEF ) } }` with a row for each of the table's.
 /// Expressions are written as by `print_expr`, terms as by `nt_text::write_term`.
 ///
-/// That the text reads back as the part is tested, and not proved yet. Room is linear in the text, and so
-/// is time, but that a value is found in its row in the logarithm of the row's names. The calls nest as
-/// deep as the operators and their expressions do.
+/// The text reads back as the part: `part_texts` proves it of each part of an accepted query. Room is linear
+/// in the text, and so is time, but that a value is found in its row in the logarithm of the row's names.
+/// The calls nest as deep as the operators and their expressions do.
 pub fn print_part(alloc: Global, a: &Algebra) -> Result<Text, Memory>
     requires { is_server (algebra_of a.now) ≡ true }
     ensures { IfOk result (λ text. text ≡ part_text (algebra_of a.now)) }

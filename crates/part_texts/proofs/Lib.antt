@@ -1,0 +1,15 @@
+pub mod Forms
+pub mod Meaning
+pub mod Rules
+pub mod Rows
+pub mod Pieces
+pub mod Shown
+pub mod Back
+pub mod PartRules
+pub mod Parts
+pub mod Rest
+pub mod ReadGroups
+pub mod Labels
+pub mod Translated
+pub mod Front
+pub mod Laws
