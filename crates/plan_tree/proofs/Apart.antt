@@ -6,9 +6,9 @@ use Rattle.term_core.specs.Bags.{In, AreDistinct}
 use Rattle.term_core.specs.Mappings.{Row}
 use Rattle.term_core.proofs.Merges.{Some_same}
 use Rattle.term_core.specs.Patterns.{Pattern}
-use Rattle.plan_tree.specs.Trace.{Plan, rows_plan, join_plan, project_plan, Entries, trace}
+use Rattle.plan_tree.specs.Trace.{Plan, rows_plan, join_plan, union_plan, filter_plan, bind_plan, project_plan, Entries, trace}
 use Rattle.term_core.specs.Index.{range}
-use Rattle.plan_tree.specs.States.{Inner, idle, opened, at_triple, State, table_state, join_state, InnerAt, Stands, StandsAt}
+use Rattle.plan_tree.specs.States.{Inner, idle, opened, at_triple, State, table_state, join_state, union_state, InnerAt, Stands, StandsAt}
 use Rattle.plan_tree.proofs.Standing.{not_done}
 use Rattle.term_core.proofs.Ranges.{from_In-range, range_distinct}
 use Rattle.term_core.proofs.Ranked.{In-slice_get, ids_same}
@@ -37,10 +37,15 @@ inner_at D p entries (suc m) (at_triple ids) i j (row, k, t, is, found, ranks, s
     omega (arith, sum, total, places)
 
 pub other_places : (D : List Triple) (plan : Plan) (state : State) (m n : ℕ) → Stands D plan state m → Stands D plan state n → m ≡ n
-other_places D (rows_plan rows) (table_state place) m n x y = x.1 ∙ sym y.1
+other_places D (rows_plan variables rows) (table_state place) m n x y = x.1 ∙ sym y.1
 other_places D (join_plan left p) (join_state below inner) m n (i, x, at) (j, y, other) =
     let same : i ≡ j = other_places D left below i j x y in
     inner_at D p (trace D left) i inner m n at (subst (λ w. InnerAt D p (trace D left) w inner n) (sym same) other)
+other_places D (union_plan first second) (union_state zero state) m n x y = other_places D first state m n x y
+other_places D (union_plan first second) (union_state (suc zero) state) m n (i, x, e) (j, y, f) =
+    omega (arith, e, f, other_places D second state i j x y)
+other_places D (filter_plan inner condition) state m n x y = other_places D inner state m n x y
+other_places D (bind_plan inner variable e) state m n x y = other_places D inner state m n x y
 other_places D (project_plan inner names) state m n x y = other_places D inner state m n x y
 other_places D plan state m n x y = absurd x
 

@@ -1,9 +1,13 @@
 pub mod Made
 pub mod Traces
 pub mod Solutions
+pub mod Visible
+pub mod Algebras
+pub mod Ordered
 pub mod Pieces
 pub mod Standing
 pub mod Apart
+pub mod Reached
 pub mod Spelled
 pub mod Runs
 pub mod Sets

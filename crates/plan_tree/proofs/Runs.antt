@@ -2,12 +2,13 @@
 use Rattle.std.proofs.Common.{◌≡◌, ℕ, zero, suc, ◌+◌, ◌-◌, ◌*◌, ◌%◌, ◌<◌, ◌≤◌, List, [], ◌∷◌, ◌++◌, length, get_or, take, drop, Option, Some, None, refl, sym, ap, ◌∙◌, subst, ⊎_elim, arith}
 use Rattle.std.proofs.Math.Nat.{mod-lt, mod-eq_of_lt, add-mod_right}
 use Rattle.std.proofs.lemmas.Bool.{cases_lt}
+use Rattle.std.proofs.lemmas.Grind.{flat_map-append}
 use Rattle.std.proofs.lemmas.List.{drop-drop, drop_all, take-append-drop}
 use Rattle.term_core.specs.declared.term.Triple.{Triple}
 use Rattle.plan_tree.specs.Trace.{Plan, trace, steps, rows_of}
 use Rattle.plan_tree.specs.Spelling.{plan_bytes, nodes}
-use Rattle.plan_tree.specs.Pages.{Page, IsNext, page_end, IsPage, IsRun, AreQuanta, rows_in, steps_in, next_length, longest_plan_in}
-use Rattle.plan_tree.specs.StateLaws.{AreWhole, HasOne, TakesSteps, GoesRound}
+use Rattle.plan_tree.specs.Pages.{Page, IsNext, page_end, IsPage, IsRun, Part, IsRunOf, AreQuanta, rows_in, steps_in, next_length, longest_plan_in}
+use Rattle.plan_tree.specs.StateLaws.{AreWhole, HasOne, TakesSteps, GoesRound, AreAllOf}
 use Rattle.plan_tree.proofs.Traces.{rows_of-append}
 use Rattle.plan_tree.proofs.Spelled.{bounded}
 use Rattle.plan_tree.proofs.Standing.{some_state, same_state, stands_below}
@@ -95,7 +96,7 @@ module _ (D : List Triple) (plan : Plan) (text : List ℕ) where
         let rest : pages ≡ others = run_same (k + 1) (n + a.steps) pages others x.2 (subst (λ (w : Page). IsRun D plan text quanta (k + 1) (n + w.steps) others) (sym first) y.2) in
         λ i. first i ∷ rest i
 
-    run_from : ((k : ℕ) → 1 ≤ quanta k) → (fuel k n : ℕ) → n ≤ steps D plan → steps D plan ≤ n + fuel → (pages : List Page) × IsRun D plan text quanta k n pages
+    pub run_from : ((k : ℕ) → 1 ≤ quanta k) → (fuel k n : ℕ) → n ≤ steps D plan → steps D plan ≤ n + fuel → (pages : List Page) × IsRun D plan text quanta k n pages
     run_from some zero k n h f = ([], omega (arith, h, f))
     run_from some (suc fuel) k n h f = ⊎_elim
         (λ l.
@@ -115,6 +116,49 @@ pub one_run : (D : List Triple) (plan : Plan) (text : List ℕ) (quanta : ℕ �
 one_run D plan text quanta some =
     let run = run_from D plan text quanta some (steps D plan) 0 0 (omega arith) (omega arith) in
     record { found = run.0; has = run.1; alone = λ others h. run_same D plan text quanta 0 0 others run.0 h run.1 }
+
+-- the pages of several parts
+rows_in-append : (pages others : List Page) → rows_in (pages ++ others) ≡ rows_in pages ++ rows_in others
+rows_in-append pages others = flat_map-append (λ (page : Page). page.rows) pages others
+
+steps_in-append : (pages others : List Page) → steps_in (pages ++ others) ≡ steps_in pages + steps_in others
+steps_in-append [] others = omega arith
+steps_in-append (page ∷ pages) others = omega (arith, steps_in-append pages others)
+
+module _ (D : List Triple) (quanta : ℕ → ℕ) (some : (k : ℕ) → 1 ≤ quanta k) where
+  run_of_from : (parts : List Part) (k : ℕ) → (pages : List Page) × IsRunOf D parts quanta k pages
+  run_of_from [] k = ([], refl)
+  run_of_from (part ∷ parts) k =
+      let own = run_from D part.plan part.text quanta some (steps D part.plan) k 0 (omega arith) (omega arith) in
+      let rest = run_of_from parts (k + length own.0) in
+      (own.0 ++ rest.0, (own.0, rest.0, refl, own.1, rest.1))
+
+  run_of_same : (parts : List Part) (k : ℕ) (pages others : List Page) → IsRunOf D parts quanta k pages → IsRunOf D parts quanta k others → pages ≡ others
+  run_of_same [] k pages others x y = x ∙ sym y
+  run_of_same (part ∷ parts) k pages others (own, rest, is, run, go) (own2, rest2, is2, run2, go2) =
+      let first : own ≡ own2 = run_same D part.plan part.text quanta k 0 own own2 run run2 in
+      let more : rest ≡ rest2 = run_of_same parts (k + length own) rest rest2 go (subst (λ (w : List Page). IsRunOf D parts quanta (k + length w) rest2) (sym first) go2) in
+      is ∙ (λ i. first i ++ more i) ∙ sym is2
+
+  run_of_rows : (parts : List Part) (k : ℕ) (pages : List Page) → IsRunOf D parts quanta k pages → AreAllOf D parts pages
+  run_of_rows [] k pages is = record { rows = ap rows_in is; steps_all = ap steps_in is }
+  run_of_rows (part ∷ parts) k pages (own, rest, is, run, go) =
+      let r : AreAllOf D parts rest = run_of_rows parts (k + length own) rest go in
+      let mine : rows_in own ≡ rows_of (trace D part.plan) = followed_rows D part.plan part.text quanta some k 0 own run in
+      let own_steps : 0 + steps_in own ≡ steps D part.plan = followed_steps D part.plan part.text quanta some k 0 own run in
+      let all_steps : steps_in pages ≡ steps_in own + steps_in rest = ap steps_in is ∙ steps_in-append own rest in
+      record {
+        rows = ap rows_in is ∙ rows_in-append own rest ∙ (λ i. mine i ++ r.rows i);
+        steps_all = omega (arith, all_steps, own_steps, r.steps_all);
+      }
+
+pub one_run_of : (D : List Triple) (parts : List Part) (quanta : ℕ → ℕ) → ((k : ℕ) → 1 ≤ quanta k) → HasOne (λ pages. IsRunOf D parts quanta 0 pages)
+one_run_of D parts quanta some =
+    let run = run_of_from D quanta some parts 0 in
+    record { found = run.0; has = run.1; alone = λ others h. run_of_same D quanta some parts 0 others run.0 h run.1 }
+
+pub parts_join : (D : List Triple) (parts : List Part) (quanta : ℕ → ℕ) (pages : List Page) → ((k : ℕ) → 1 ≤ quanta k) → IsRunOf D parts quanta 0 pages → AreAllOf D parts pages
+parts_join D parts quanta pages some run = run_of_rows D quanta some parts 0 pages run
 
 -- the quanta of a list that is walked round
 pub goes_round : (quanta : List ℕ) → AreQuanta quanta → GoesRound quanta

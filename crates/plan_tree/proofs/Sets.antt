@@ -7,8 +7,8 @@ use Rattle.term_core.specs.Bags.{HaveSame}
 use Rattle.term_core.specs.Mappings.{Row}
 use Rattle.term_core.specs.Patterns.{Pattern}
 use Rattle.term_core.proofs.Sets.{data_id_same, rank_same, ids_same}
-use Rattle.plan_tree.specs.Trace.{Plan, rows_plan, join_plan, project_plan, Entries, join_entries, triple_entries, trace, steps, rows_of}
-use Rattle.plan_tree.specs.States.{Inner, idle, opened, at_triple, State, table_state, join_state, pieces_before, made_before, InnerAt, Stands}
+use Rattle.plan_tree.specs.Trace.{Plan, rows_plan, join_plan, union_plan, filter_plan, bind_plan, project_plan, Entries, join_entries, triple_entries, trace, steps, rows_of}
+use Rattle.plan_tree.specs.States.{Inner, idle, opened, at_triple, State, table_state, join_state, union_state, pieces_before, made_before, InnerAt, Stands}
 use Rattle.plan_tree.specs.Spelling.{state_bytes, plan_bytes}
 use Rattle.plan_tree.specs.Pages.{Page, IsNext, page_end, IsPage, IsRun}
 use Rattle.plan_tree.specs.StateLaws.{AreAlike}
@@ -41,12 +41,17 @@ inner_same D E p entries (suc m) (at_triple ids) n same (row, k, t, is, found, r
 )
 
 pub stands_same : (D E : List Triple) (plan : Plan) (state : State) (n : ℕ) → HaveSame D E → Stands D plan state n → Stands E plan state n
-stands_same D E (rows_plan rows) (table_state place) n same h = h
+stands_same D E (rows_plan variables rows) (table_state place) n same h = h
 stands_same D E (join_plan left p) (join_state below inner) n same (m, h, at) = (
   m,
   stands_same D E left below m same h,
   inner_same D E p (trace E left) m inner n same (subst (λ es. InnerAt D p es m inner n) (trace_same D E left same) at),
 )
+stands_same D E (union_plan first second) (union_state zero state) n same h = stands_same D E first state n same h
+stands_same D E (union_plan first second) (union_state (suc zero) state) n same (k, h, e) =
+    (k, stands_same D E second state k same h, e ∙ ap (λ es. length es + k) (trace_same D E first same))
+stands_same D E (filter_plan inner condition) state n same h = stands_same D E inner state n same h
+stands_same D E (bind_plan inner variable e) state n same h = stands_same D E inner state n same h
 stands_same D E (project_plan inner names) state n same h = stands_same D E inner state n same h
 stands_same D E plan state n same h = absurd h
 

@@ -18,7 +18,7 @@ use Rattle.sparql_tree.proofs.Assignments.{value-insert}
 use Rattle.plan_tree.specs.Trace.{rows_plan, put, bind_at, changed, trace, steps}
 use Rattle.term_core.specs.Index.{range}
 use Rattle.plan_tree.specs.Laws.{AreVariables}
-use Rattle.plan_tree.specs.States.{Inner, idle, opened, at_triple, State, done, table_state, join_state, InnerAt, Stands}
+use Rattle.plan_tree.specs.States.{Inner, idle, opened, at_triple, State, done, table_state, join_state, union_state, InnerAt, Stands}
 use Rattle.plan_tree.specs.OnePattern.{pattern_plan, matches, solution_of, entry_of, PatternTrace, PatternStates, PatternRows, IsPatternState, is_fresh, is_opened, is_triple, is_closing, HasNamesOf}
 use Rattle.plan_tree.proofs.Traces.{rows_of-pattern}
 use Rattle.plan_tree.proofs.Solutions.{pattern_answers}
@@ -51,28 +51,28 @@ pattern_states D p names = record {
 }
 
 module _ (D : List Triple) (p : Pattern) where
-  one_row : (row : Row) → slice_get (trace D (rows_plan (finmap.empty ∷ []))) 0 ≡ Some (Some row) → finmap.empty ≡ row
+  one_row : (row : Row) → slice_get (trace D (rows_plan [] (finmap.empty ∷ []))) 0 ≡ Some (Some row) → finmap.empty ≡ row
   one_row row e = Some_same _ _ (Some_same _ _ e)
 
   -- the table is at 0 or at 1
-  idle_is : (m n : ℕ) → m ≤ 1 → InnerAt D p (trace D (rows_plan (finmap.empty ∷ []))) m idle n → IsPatternState D p (join_state (table_state m) idle) n
+  idle_is : (m n : ℕ) → m ≤ 1 → InnerAt D p (trace D (rows_plan [] (finmap.empty ∷ []))) m idle n → IsPatternState D p (join_state (table_state m) idle) n
   idle_is zero n h at = is_fresh refl at
   idle_is (suc zero) n h at = is_closing refl (omega (arith, at, row_entries D p finmap.empty))
   idle_is (suc (suc m)) n h at = absurd (omega (arith, h))
 
-  opened_is : (m n : ℕ) → m ≤ 1 → InnerAt D p (trace D (rows_plan (finmap.empty ∷ []))) m opened n → IsPatternState D p (join_state (table_state m) opened) n
+  opened_is : (m n : ℕ) → m ≤ 1 → InnerAt D p (trace D (rows_plan [] (finmap.empty ∷ []))) m opened n → IsPatternState D p (join_state (table_state m) opened) n
   opened_is zero n h at = absurd at
   opened_is (suc zero) n h (row, is, sum) = is_opened refl sum
   opened_is (suc (suc m)) n h at = absurd (omega (arith, h))
 
-  triple_is : (m n : ℕ) (ids : _) → m ≤ 1 → InnerAt D p (trace D (rows_plan (finmap.empty ∷ []))) m (at_triple ids) n → IsPatternState D p (join_state (table_state m) (at_triple ids)) n
+  triple_is : (m n : ℕ) (ids : _) → m ≤ 1 → InnerAt D p (trace D (rows_plan [] (finmap.empty ∷ []))) m (at_triple ids) n → IsPatternState D p (join_state (table_state m) (at_triple ids)) n
   triple_is zero n ids h at = absurd at
   triple_is (suc zero) n ids h (row, k, t, is, found, ranks, sum) =
       let same : finmap.empty ≡ row = one_row row is in
       is_triple k t (ap (λ r. slice_get (range D p r) k) same ∙ found) (ap (λ i. join_state (table_state 1) (at_triple i)) ranks) (omega (arith, sum))
   triple_is (suc (suc m)) n ids h at = absurd (omega (arith, h))
 
-  inner_is : (m n : ℕ) (inner : Inner) → m ≤ 1 → InnerAt D p (trace D (rows_plan (finmap.empty ∷ []))) m inner n → IsPatternState D p (join_state (table_state m) inner) n
+  inner_is : (m n : ℕ) (inner : Inner) → m ≤ 1 → InnerAt D p (trace D (rows_plan [] (finmap.empty ∷ []))) m inner n → IsPatternState D p (join_state (table_state m) inner) n
   inner_is m n idle h at = idle_is m n h at
   inner_is m n opened h at = opened_is m n h at
   inner_is m n (at_triple ids) h at = triple_is m n ids h at
@@ -82,6 +82,8 @@ module _ (D : List Triple) (p : Pattern) where
       subst (λ w. IsPatternState D p (join_state (table_state w) inner) n) h.1 (inner_is m n inner (omega (arith, h.0, h.1)) at)
   state_is names (join_state done inner) n h = absurd h.1
   state_is names (join_state (join_state below other) inner) n h = absurd h.1
+  state_is names (join_state (union_state side state) inner) n h = absurd h.1
+  state_is names (union_state side state) n h = absurd h
   state_is names done n h = absurd h
   state_is names (table_state place) n h = absurd h
 

@@ -1,5 +1,5 @@
 -- The rows of a plan are the solutions of its patterns.
-use Rattle.std.proofs.Common.{◌≡◌, List, [], ◌∷◌, map, refl, sym, ◌∙◌, subst}
+use Rattle.std.proofs.Common.{◌≡◌, List, [], ◌∷◌, map, sym, ◌∙◌}
 use Rattle.std.specs.List.{filter_map}
 use Rattle.std.specs.FinMap as finmap
 use Rattle.term_core.specs.declared.term.Triple.{Triple}
@@ -14,8 +14,8 @@ use Rattle.sparql_tree.proofs.Visible.{map_shown}
 use Rattle.term_core.proofs.Permuted.{rows_permuted}
 use Rattle.term_core.proofs.Sets.{same_back}
 use Rattle.sparql_tree.proofs.Data.{solutions_same}
-use Rattle.plan_tree.specs.Trace.{Plan, rows_plan, join_plan, project_plan, made_of, trace}
-use Rattle.plan_tree.specs.Plans.{joined_onto, IsPlan}
+use Rattle.plan_tree.specs.Trace.{Plan, join_plan, project_plan, made_of, trace}
+use Rattle.plan_tree.specs.Plans.{joined_onto, one_row}
 use Rattle.plan_tree.specs.Laws.{AreVariables}
 use Rattle.plan_tree.proofs.Made.{made_is}
 use Rattle.plan_tree.proofs.Traces.{rows_in, rows_of-join, rows_of-changed}
@@ -35,43 +35,23 @@ onto_bag D plan (p ∷ ps) =
     (bag_then (joins_turned (full_solutions D (p ∷ [])) (full_solutions D ps)) (bag_back (one_more D ps p))))))
 
 -- patterns joined to the table of one empty row give their solutions
-pub alone_bag : (D : List Triple) (ps qs : List Pattern) → HaveSame ps qs → SameBag (rows_in D (joined_onto (rows_plan (finmap.empty ∷ [])) qs)) (full_solutions D ps)
+pub alone_bag : (D : List Triple) (ps qs : List Pattern) → HaveSame ps qs → SameBag (rows_in D (joined_onto one_row qs)) (full_solutions D ps)
 alone_bag D ps qs s =
-    bag_then (onto_bag D (rows_plan (finmap.empty ∷ [])) qs)
+    bag_then (onto_bag D one_row qs)
     (bag_then (joins_turned (finmap.empty ∷ []) (full_solutions D qs))
     (bag_then (bag_is _ _ (joins_unit (full_solutions D qs))) (bag_back (any_order D ps qs s))))
 
--- a plan's rows without their blank nodes' names are the solutions of its patterns
-pub plan_bag : (D : List Triple) (ps : List Pattern) (plan : Plan) → IsPlan ps plan → SameBag (map visible (rows_in D plan)) (solutions D ps)
-plan_bag D ps plan h =
-    subst (λ w. SameBag (map visible (rows_in D w)) (solutions D ps)) (sym h.2)
-    (bag_map visible (rows_in D (joined_onto (rows_plan (finmap.empty ∷ [])) h.0)) (full_solutions D ps) (alone_bag D ps h.0 h.1))
-
 -- the rows of a projected plan
-projected : (D : List Triple) (plan : Plan) (names : List Name) → AreVariables names → rows_in D (project_plan plan names) ≡ map (restricted names) (map visible (rows_in D plan))
+pub projected : (D : List Triple) (plan : Plan) (names : List Name) → AreVariables names → rows_in D (project_plan plan names) ≡ map (restricted names) (map visible (rows_in D plan))
 projected D plan names v = rows_of-changed (restricted names) (trace D plan) ∙ map_shown names (rows_in D plan) v
 
--- the solutions over one list of triples from a plan over another list of the same
-moved_bag : (L D : List Triple) (ps : List Pattern) (plan : Plan) → HaveSame L D → IsPlan ps plan → SameBag (map visible (rows_in D plan)) (solutions L ps)
-moved_bag L D ps plan s h = bag_then (plan_bag D ps plan h) (solutions_same D L ps (same_back s))
-
--- the law of the bag
-pub bag_kept : (L D : List Triple) (ps : List Pattern) (plan : Plan) (names : List Name) → HaveSame L D → IsPlan ps plan → AreVariables names
-    → SameBag (rows_in D (project_plan plan names)) (map (restricted names) (solutions L ps))
-bag_kept L D ps plan names s h v =
-    bag_then (bag_is _ _ (projected D plan names v)) (bag_map (restricted names) (map visible (rows_in D plan)) (solutions L ps) (moved_bag L D ps plan s h))
-
--- the law of the answer
-pub rows_answer : (L D : List Triple) (ps : List Pattern) (plan : Plan) (names : List Name) → HaveSame L D → IsPlan ps plan → AreVariables names
-    → IsAnswer (solutions L ps) names (rows_in D (project_plan plan names))
-rows_answer L D ps plan names s h v = record {
-  order = map visible (rows_in D plan);
-  rearranged = rows_permuted _ _ (bag_back (moved_bag L D ps plan s h));
-  projected = projected D plan names v;
-}
-
--- the same for one pattern
+-- the rows of one pattern's plan answer the query, over any list of the same triples
 pub pattern_answers : (L D : List Triple) (p : Pattern) (names : List Name) → HaveSame L D → AreVariables names
-    → IsAnswer (solutions L (p ∷ [])) names (rows_in D (project_plan (join_plan (rows_plan (finmap.empty ∷ [])) p) names))
-pattern_answers L D p names s v =
-    rows_answer L D (p ∷ []) (join_plan (rows_plan (finmap.empty ∷ [])) p) names s (p ∷ [], record { to = λ q i. i; from = λ q i. i }, refl) v
+    → IsAnswer (solutions L (p ∷ [])) names (rows_in D (project_plan (join_plan one_row p) names))
+pattern_answers L D p names s v = record {
+  order = map visible (rows_in D (join_plan one_row p));
+  rearranged = rows_permuted _ _ (bag_back (bag_then
+      (bag_map visible (rows_in D (join_plan one_row p)) (full_solutions D (p ∷ [])) (alone_bag D (p ∷ []) (p ∷ []) (record { to = λ q i. i; from = λ q i. i })))
+      (solutions_same D L (p ∷ []) (same_back s))));
+  projected = projected D (join_plan one_row p) names v;
+}

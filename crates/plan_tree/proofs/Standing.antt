@@ -1,5 +1,5 @@
 -- For each number of entries there is one state.
-use Rattle.std.proofs.Common.{◌≡◌, ℕ, zero, suc, ◌+◌, ◌<◌, ◌≤◌, List, [], ◌∷◌, ◌++◌, length, map, Option, Some, None, refl, sym, ap, ◌∙◌, subst, ⊎_elim, inl, inr, arith, length-append}
+use Rattle.std.proofs.Common.{◌≡◌, ℕ, zero, suc, ◌+◌, ◌-◌, ◌<◌, ◌≤◌, List, [], ◌∷◌, ◌++◌, length, map, Option, Some, None, refl, sym, ap, ◌∙◌, subst, ⊎_elim, inl, inr, arith, length-append}
 use Rattle.std.specs.Prelude.{flat_map, slice_get}
 use Rattle.std.proofs.lemmas.Bool.{cases_lt}
 use Rattle.std.proofs.lemmas.List.{length-map}
@@ -7,9 +7,9 @@ use Rattle.term_core.specs.declared.term.Triple.{Triple}
 use Rattle.term_core.specs.Mappings.{Row, restricted}
 use Rattle.term_core.proofs.Merges.{Some_same}
 use Rattle.term_core.specs.Patterns.{Pattern}
-use Rattle.plan_tree.specs.Trace.{Plan, rows_plan, join_plan, project_plan, extended, Entries, join_entries, changed, trace, steps}
+use Rattle.plan_tree.specs.Trace.{Plan, rows_plan, join_plan, union_plan, filter_plan, bind_plan, project_plan, extended, Entries, join_entries, changed, trace, steps, kept, extended_by}
 use Rattle.term_core.specs.Index.{range}
-use Rattle.plan_tree.specs.States.{Inner, idle, opened, at_triple, State, done, table_state, join_state, made_before, InnerAt, Stands, StandsAt}
+use Rattle.plan_tree.specs.States.{Inner, idle, opened, at_triple, State, done, table_state, join_state, union_state, made_before, InnerAt, Stands, StandsAt}
 use Rattle.term_core.specs.Data.{ids_of}
 use Rattle.plan_tree.specs.StateLaws.{HasOne}
 use Rattle.plan_tree.proofs.Traces.{traces_end}
@@ -29,7 +29,7 @@ row_not_last D plan k row h =
     subst (λ es. suc k < length es) (sym e.1) (row_inside e.0 k row moved)
 
 -- what a join makes of an entry
-some_entries : (D : List Triple) (p : Pattern) (entry : Option Row) → 0 < length (join_entries D p entry)
+pub some_entries : (D : List Triple) (p : Pattern) (entry : Option Row) → 0 < length (join_entries D p entry)
 some_entries D p None = omega arith
 some_entries D p (Some row) = omega arith
 
@@ -84,10 +84,18 @@ module _ (D : List Triple) (p : Pattern) (entries : Entries) where
 
 -- a state stands below the last entry's end
 pub stands_below : (D : List Triple) (plan : Plan) (state : State) (n : ℕ) → Stands D plan state n → n < steps D plan
-stands_below D (rows_plan rows) (table_state place) n h =
+stands_below D (rows_plan variables rows) (table_state place) n h =
     omega (arith, h.0, h.1, length-append (map Some rows) (None ∷ []), length-map rows (λ (r : Row). Some r))
 stands_below D (join_plan left p) (join_state below inner) n (m, h, at) =
     inner_below D p (trace D left) m inner n (stands_below D left below m h) at
+stands_below D (union_plan first second) (union_state zero state) n h =
+    omega (arith, stands_below D first state n h, length-append (trace D first) (trace D second))
+stands_below D (union_plan first second) (union_state (suc zero) state) n (k, h, e) =
+    omega (arith, e, stands_below D second state k h, length-append (trace D first) (trace D second))
+stands_below D (filter_plan inner condition) state n h =
+    omega (arith, stands_below D inner state n h, length-map (trace D inner) (kept condition))
+stands_below D (bind_plan inner variable e) state n h =
+    omega (arith, stands_below D inner state n h, length-map (trace D inner) (changed (extended_by variable e)))
 stands_below D (project_plan inner names) state n h =
     omega (arith, stands_below D inner state n h, length-map (trace D inner) (changed (restricted names)))
 stands_below D plan state n h = absurd h
@@ -112,11 +120,22 @@ module _ (D : List Triple) (p : Pattern) (left : Plan) where
       (join_state at.0 (at_triple (ids_of D t.0)), (suc m, at.1, (row, k, t.0, is, t.1, refl, omega (arith, e))))
 
 pub some_state : (D : List Triple) (plan : Plan) (n : ℕ) → n < steps D plan → (state : State) × Stands D plan state n
-some_state D (rows_plan rows) n h =
+some_state D (rows_plan variables rows) n h =
     (table_state n, (omega (arith, length-append (map Some rows) (None ∷ []), length-map rows (λ (r : Row). Some r)), refl))
 some_state D (join_plan left p) n h =
     let l = lies (join_entries D p) (trace D left) n h in
     join_from D p left (some_state D left) n l.piece l.element l.inside l.is l.within l.sum
+some_state D (union_plan first second) n h = ⊎_elim
+    (λ l. let s = some_state D first n l in (union_state 0 s.0, s.1))
+    (λ l.
+    let k = n - steps D first in
+    let s = some_state D second k (omega (arith, h, l, length-append (trace D first) (trace D second))) in
+    (union_state 1 s.0, (k, s.1, omega (arith, l))))
+    (cases_lt n (steps D first))
+some_state D (filter_plan inner condition) n h =
+    some_state D inner n (omega (arith, length-map (trace D inner) (kept condition)))
+some_state D (bind_plan inner variable e) n h =
+    some_state D inner n (omega (arith, length-map (trace D inner) (changed (extended_by variable e))))
 some_state D (project_plan inner names) n h =
     some_state D inner n (omega (arith, length-map (trace D inner) (changed (restricted names))))
 
@@ -145,11 +164,19 @@ same_inner D p entries m k a b n hm hk at other =
     same_form D p m k a b x.piece x.inside y.piece y.inside x.element y.element s.0 s.1 (Some_same _ _ (sym x.is ∙ ap (slice_get entries) s.0 ∙ y.is)) x.form y.form
 
 pub same_state : (D : List Triple) (plan : Plan) (a b : State) (n : ℕ) → Stands D plan a n → Stands D plan b n → a ≡ b
-same_state D (rows_plan rows) (table_state i) (table_state j) n x y = ap table_state (sym x.1 ∙ y.1)
+same_state D (rows_plan variables rows) (table_state i) (table_state j) n x y = ap table_state (sym x.1 ∙ y.1)
 same_state D (join_plan left p) (join_state a i) (join_state b j) n (m, x, at) (k, y, other) =
     let s = same_inner D p (trace D left) m k i j n (stands_below D left a m x) (stands_below D left b k y) at other in
     let below : a ≡ b = same_state D left a b m x (subst (λ w. Stands D left b w) (sym s.0) y) in
     λ l. join_state (below l) (s.1 l)
+same_state D (union_plan first second) (union_state zero a) (union_state zero b) n x y = ap (union_state 0) (same_state D first a b n x y)
+same_state D (union_plan first second) (union_state zero a) (union_state (suc zero) b) n x (k, y, e) = absurd (omega (arith, e, stands_below D first a n x))
+same_state D (union_plan first second) (union_state (suc zero) a) (union_state zero b) n (k, x, e) y = absurd (omega (arith, e, stands_below D first b n y))
+same_state D (union_plan first second) (union_state (suc zero) a) (union_state (suc zero) b) n (k, x, e) (j, y, f) =
+    let same : k ≡ j = omega (arith, e, f) in
+    ap (union_state 1) (same_state D second a b k x (subst (λ w. Stands D second b w) (sym same) y))
+same_state D (filter_plan inner condition) a b n x y = same_state D inner a b n x y
+same_state D (bind_plan inner variable e) a b n x y = same_state D inner a b n x y
 same_state D (project_plan inner names) a b n x y = same_state D inner a b n x y
 same_state D plan a b n x y = absurd assumption
 
@@ -160,8 +187,11 @@ one_state D plan n h =
 
 -- a state that stands is not done
 pub not_done : (D : List Triple) (plan : Plan) (n : ℕ) → Stands D plan done n → ⊥
-not_done D (rows_plan rows) n h = h
+not_done D (rows_plan variables rows) n h = h
 not_done D (join_plan left p) n h = h
+not_done D (union_plan first second) n h = h
+not_done D (filter_plan inner condition) n h = not_done D inner n h
+not_done D (bind_plan inner variable e) n h = not_done D inner n h
 not_done D (project_plan inner names) n h = not_done D inner n h
 
 same_at : (D : List Triple) (plan : Plan) (a b : State) (n : ℕ) → StandsAt D plan a n → StandsAt D plan b n → a ≡ b

@@ -2,7 +2,9 @@ pub mod Trace
 pub mod Plans
 pub mod Laws
 pub mod States
+pub mod Trees
 pub mod Spelling
+pub mod Reached
 pub mod Pages
 pub mod OnePattern
 pub mod StateLaws

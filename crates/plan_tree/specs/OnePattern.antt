@@ -16,7 +16,7 @@ use Rattle.term_core.specs.Data.{ids_of}
 
 -- the pattern joined to the table of one empty row, restricted to names
 abbrev pub pattern_plan : Pattern → List Name → Plan
-pattern_plan p names = project_plan (join_plan (rows_plan (finmap.empty ∷ [])) p) names
+pattern_plan p names = project_plan (join_plan (rows_plan [] (finmap.empty ∷ [])) p) names
 
 -- the triples of the data that agree with the pattern's terms, in the order of its index
 abbrev pub matches : List Triple → Pattern → List Triple

@@ -1,5 +1,5 @@
 -- Pages: what a server gives for one quantum, and all pages of a plan, followed from none to none.
-use Rattle.std.specs.Prelude.{◌≡◌, ℕ, ◌+◌, ◌-◌, ◌%◌, ◌<◌, ◌≤◌, min, max, List, [], ◌∷◌, length, slice_index_or, take, drop, flat_map, All, Option, Some, None}
+use Rattle.std.specs.Prelude.{◌≡◌, ℕ, ◌+◌, ◌-◌, ◌%◌, ◌<◌, ◌≤◌, min, max, List, [], ◌∷◌, ◌++◌, length, slice_index_or, take, drop, flat_map, All, Option, Some, None}
 use Rattle.term_core.specs.declared.term.Triple.{Triple}
 use Rattle.term_core.specs.Mappings.{Row}
 use Rattle.plan_tree.specs.Trace.{Plan, trace, steps, rows_of}
@@ -32,6 +32,17 @@ abbrev pub IsRun : List Triple → Plan → List ℕ → (ℕ → ℕ) → ℕ �
 IsRun D plan text quanta k n [] = n ≡ steps D plan
 IsRun D plan text quanta k n (page ∷ pages) =
     (n < steps D plan) × IsPage D plan text n (quanta k) page × IsRun D plan text quanta (k + 1) (n + page.steps) pages
+
+-- a part of a query that servers answer: its plan and its text
+pub record Part : Type 0 where
+  pub plan : Plan
+  pub text : List ℕ
+
+-- the pages of several parts, followed one after the other, each to its end; page k of the whole run has quantum `quanta k`
+abbrev pub IsRunOf : List Triple → List Part → (ℕ → ℕ) → ℕ → List Page → Type 0
+IsRunOf D [] quanta k pages = pages ≡ []
+IsRunOf D (part ∷ parts) quanta k pages =
+    (own : List Page) × (rest : List Page) × (pages ≡ own ++ rest) × IsRun D part.plan part.text quanta k 0 own × IsRunOf D parts quanta (k + length own) rest
 
 -- there is a quantum, and under each a page takes a step
 pub record AreQuanta (quanta : List ℕ) : Type 0 where

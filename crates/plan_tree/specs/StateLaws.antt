@@ -1,14 +1,15 @@
 -- What is proved of states, of their bytes and of pages.
-use Rattle.std.specs.Prelude.{◌≡◌, ℕ, ◌+◌, ◌*◌, ◌^◌, ◌≤◌, ◌<◌, List, length, slice_index_or, take, drop, slice_get, Option, Some}
+use Rattle.std.specs.Prelude.{◌≡◌, ℕ, ◌+◌, ◌*◌, ◌^◌, ◌≤◌, ◌<◌, List, [], ◌∷◌, length, slice_index_or, take, drop, flat_map, slice_get, Option, Some}
 use Rattle.sha2.specs.Sha256.{sha256}
 use Rattle.term_core.specs.declared.term.Term.{Term}
 use Rattle.term_core.specs.declared.term.Triple.{Triple}
 use Rattle.term_core.specs.Bags.{HaveSame}
 use Rattle.term_core.specs.Data.{terms_of, rank, data_id}
-use Rattle.plan_tree.specs.Trace.{Plan, rows_plan, join_plan, project_plan, trace, steps, rows_of}
+use Rattle.plan_tree.specs.Trace.{Plan, rows_plan, join_plan, union_plan, filter_plan, bind_plan, project_plan, trace, steps, rows_of}
 use Rattle.plan_tree.specs.States.{State, Stands, StandsAt}
 use Rattle.plan_tree.specs.Spelling.{state_bytes, plan_bytes, nodes}
-use Rattle.plan_tree.specs.Pages.{Page, IsNext, page_end, IsPage, IsRun, AreQuanta, walked, rows_in, steps_in, longest_plan_in}
+use Rattle.plan_tree.specs.Reached.{Reaches, IsShape, IsWholeShape}
+use Rattle.plan_tree.specs.Pages.{Page, IsNext, page_end, IsPage, IsRun, Part, IsRunOf, AreQuanta, walked, rows_in, steps_in, longest_plan_in}
 
 -- pages that, one after the other, have the rows and the steps of the whole plan; each suspended plan among them is short
 pub record AreWhole (D : List Triple) (plan : Plan) (pages : List Page) : Type 0 where
@@ -31,6 +32,24 @@ pub record HasOne {X : Type 0} (P : X → Type 0) : Type 0 where
 -- for quanta of at least one step there is one run
 abbrev pub OneRun : Type 0
 OneRun = (D : List Triple) (plan : Plan) (text : List ℕ) (quanta : ℕ → ℕ) → ((k : ℕ) → 1 ≤ quanta k) → HasOne (λ pages. IsRun D plan text quanta 0 0 pages)
+
+-- the steps of all parts, added up
+abbrev pub steps_of : List Triple → List Part → ℕ
+steps_of D [] = 0
+steps_of D (part ∷ parts) = steps D part.plan + steps_of D parts
+
+-- pages that, one after the other, have the rows of all parts in their order
+pub record AreAllOf (D : List Triple) (parts : List Part) (pages : List Page) : Type 0 where
+  pub rows : rows_in pages ≡ flat_map (λ part. rows_of (trace D part.plan)) parts
+  pub steps_all : steps_in pages ≡ steps_of D parts
+
+-- for quanta of at least one step there is one run of several parts
+abbrev pub OneRunOf : Type 0
+OneRunOf = (D : List Triple) (parts : List Part) (quanta : ℕ → ℕ) → ((k : ℕ) → 1 ≤ quanta k) → HasOne (λ pages. IsRunOf D parts quanta 0 pages)
+
+-- and it has the rows and the steps of each
+abbrev pub PartsJoin : Type 0
+PartsJoin = (D : List Triple) (parts : List Part) (quanta : ℕ → ℕ) (pages : List Page) → ((k : ℕ) → 1 ≤ quanta k) → IsRunOf D parts quanta 0 pages → AreAllOf D parts pages
 
 -- there is one page for each place and quantum
 abbrev pub OnePage : Type 0
@@ -79,8 +98,11 @@ Bounded = (D : List Triple) (plan : Plan) (text : List ℕ) (state : State) (n :
 
 -- each table of the plan has fewer rows than four bytes count
 abbrev pub HasFewRows : Plan → Type 0
-HasFewRows (rows_plan rows) = length rows < 2 ^ 32
+HasFewRows (rows_plan variables rows) = length rows < 2 ^ 32
 HasFewRows (join_plan left p) = HasFewRows left
+HasFewRows (union_plan first second) = HasFewRows first × HasFewRows second
+HasFewRows (filter_plan inner condition) = HasFewRows inner
+HasFewRows (bind_plan inner variable e) = HasFewRows inner
 HasFewRows (project_plan inner names) = HasFewRows inner
 
 -- the numbers in states fit into four bytes
@@ -92,6 +114,18 @@ pub record IsCountable (D : List Triple) (plan : Plan) : Type 0 where
 abbrev pub OneSpelling : Type 0
 OneSpelling = (D : List Triple) (plan : Plan) (text : List ℕ) (a b : State) (m n : ℕ) → IsCountable D plan →
     Stands D plan a m → Stands D plan b n → plan_bytes D text a ≡ plan_bytes D text b → a ≡ b
+
+-- bytes spell at most one state of a plan's shape, whatever the data
+abbrev pub OneShape : Type 0
+OneShape = (plan : Plan) (a b : State) → HasFewRows plan → IsWholeShape plan a → IsWholeShape plan b → state_bytes a ≡ state_bytes b → a ≡ b
+
+-- a state that is reached has the plan's shape
+abbrev pub ReachedAreShaped : Type 0
+ReachedAreShaped = (D : List Triple) (plan : Plan) (state : State) → length (terms_of D) < 2 ^ 32 → Reaches D plan state → IsShape plan state
+
+-- the length bound holds for states of the plan's shape, and for the end
+abbrev pub ShapesAreShort : Type 0
+ShapesAreShort = (D : List Triple) (plan : Plan) (text : List ℕ) (state : State) → IsWholeShape plan state → length (plan_bytes D text state) ≤ 65 + 14 * nodes plan
 
 -- what follows a page says how many entries came before
 abbrev pub NextsArePlaced : Type 0

@@ -7,11 +7,18 @@ use Rattle.term_core.specs.declared.term.Triple.{Triple}
 use Rattle.term_core.specs.Mappings.{Name, Row, value, same_term, restricted}
 use Rattle.term_core.specs.Patterns.{Position, Known, Named, Pattern}
 use Rattle.term_core.specs.Index.{range}
+use Rattle.sparql_tree.specs.Exprs.{Expr}
+use Rattle.sparql_value.specs.Evaluation.{value_under, is_true_under}
+use Rattle.sparql_value.specs.Solutions.{with_value}
 
--- a plan: a table of rows, the join of a plan's rows with a pattern, or the restriction of a plan's rows to names
+-- a plan: a table of rows; the join of a plan's rows with a pattern; the rows of two plans; the rows of a plan on which a
+-- condition is true; a plan's rows with an expression's value under a variable; a plan's rows restricted to names
 pub data Plan : Type 0 where
-  rows_plan : (rows : List Row) → Plan
+  rows_plan : (variables : List Name) (rows : List Row) → Plan
   join_plan : (left : Plan) (p : Pattern) → Plan
+  union_plan : (first second : Plan) → Plan
+  filter_plan : (inner : Plan) (condition : Expr) → Plan
+  bind_plan : (inner : Plan) (variable : Name) (e : Expr) → Plan
   project_plan : (inner : Plan) (names : List Name) → Plan
 
 -- a row with a name bound to a term, or nothing where the name has another value
@@ -51,10 +58,22 @@ abbrev pub changed : (Row → Row) → Option Row → Option Row
 changed f None = None
 changed f (Some row) = Some (f row)
 
+-- an entry whose row, if any, is kept where the condition is true: not where it is an error (SPARQL 1.1, 17.2)
+abbrev pub kept : Expr → Option Row → Option Row
+kept condition None = None
+kept condition (Some row) = cond (is_true_under condition row) (Some row) None
+
+-- a row with an expression's value under a variable, or as it is where that is the error (SPARQL 1.1, 18.5, Extend)
+abbrev pub extended_by : Name → Expr → Row → Row
+extended_by variable e row = with_value variable (value_under e row) row
+
 -- the entries of a plan over the data
 abbrev pub trace : List Triple → Plan → Entries
-trace D (rows_plan rows) = map Some rows ++ None ∷ []
+trace D (rows_plan variables rows) = map Some rows ++ None ∷ []
 trace D (join_plan left p) = flat_map (join_entries D p) (trace D left)
+trace D (union_plan first second) = trace D first ++ trace D second
+trace D (filter_plan inner condition) = map (kept condition) (trace D inner)
+trace D (bind_plan inner variable e) = map (changed (extended_by variable e)) (trace D inner)
 trace D (project_plan inner names) = map (changed (restricted names)) (trace D inner)
 
 -- how many steps a plan takes

@@ -1,5 +1,5 @@
 //! Laws of plans. Each function does nothing when it runs: its contract is the law.
-ghost use Rattle.plan_tree.specs.Laws.{EntriesExtend, TracesEnd, SomeSteps, RowsOfPattern, TracesOfSets, BagIsKept, RowsAnswer, PatternAnswers};
+ghost use Rattle.plan_tree.specs.Laws.{EntriesExtend, TracesEnd, SomeSteps, RowsOfPattern, TracesOfSets, BagIsKept, PlanIsOne, PlansOfSets, RowsAnswer, PatternAnswers};
 
 /// The entry of a triple has the row's values and those under which the pattern becomes the triple,
 /// and nothing else; it has no row exactly where one name would get two values.
@@ -24,7 +24,15 @@ pub fn rows_of_pattern()
     ensures rows { RowsOfPattern }
 {}
 
-/// The rows of a plan are the solutions of its algebra, each equally often (SPARQL 1.1, 18.6).
+/// The plan that is made over data, by the counts of patterns and the names that they share, is one of
+/// the algebra's plans, and the same over any list of the same triples.
+pub fn plans_are_one()
+    ensures plan { PlanIsOne }
+    ensures alike { PlansOfSets }
+{}
+
+/// The rows of a plan are the solutions of its algebra, each equally often (SPARQL 1.1, 18.6), in
+/// whatever order the patterns of each basic graph pattern are joined.
 pub fn bag_is_kept()
     ensures bag { BagIsKept }
 {}

@@ -1,6 +1,7 @@
 //! Laws of states, of their bytes and of pages. Each function does nothing when it runs: its contract is the law.
 ghost use Rattle.plan_tree.specs.OnePattern.{PatternTraces, PatternStatesStand, NoOtherStates, EntriesAreKept, RowsAreSolutions, SelectedRowsAnswer};
-ghost use Rattle.plan_tree.specs.StateLaws.{PagesJoin, OneRun, OnePage, PagesTakeSteps, OneState, OneStateAt, StatesAreBelow, OtherPlaces, QuantaGoRound, Bounded, OneSpelling, NextsArePlaced, PartsAreFixed, NamesAreTold, StatesOfSets};
+ghost use Rattle.plan_tree.specs.Reached.{ReachedStands};
+ghost use Rattle.plan_tree.specs.StateLaws.{PagesJoin, PartsJoin, OneRun, OneRunOf, OnePage, PagesTakeSteps, OneShape, ReachedAreShaped, ShapesAreShort, OneState, OneStateAt, StatesAreBelow, OtherPlaces, QuantaGoRound, Bounded, OneSpelling, NextsArePlaced, PartsAreFixed, NamesAreTold, StatesOfSets};
 
 /// The pages of a plan, followed from the first to the one after which nothing is left, have the rows
 /// of the whole trace in their order, and as many steps, whatever the quanta: no row is lost or
@@ -14,6 +15,13 @@ pub fn pages_join()
 pub fn one_run()
     ensures run { OneRun }
     ensures page { OnePage }
+{}
+
+/// Several parts, followed one after the other and each to its end, have one list of pages under quanta
+/// of at least one step, and these have the rows and the steps of each part in their order.
+pub fn parts_join()
+    ensures run { OneRunOf }
+    ensures join { PartsJoin }
 {}
 
 /// A page that begins before the end takes at least one step, and as many as its quantum unless the
@@ -46,6 +54,20 @@ pub fn bytes_of_states()
     ensures names { NamesAreTold }
     ensures spelling { OneSpelling }
     ensures placed { NextsArePlaced }
+{}
+
+/// A state is reached, by cases of the plan and with the entry behind it, exactly where it stands at
+/// some place before the end; and the entry behind it is the one before that place.
+pub fn reached_states()
+    ensures stands { ReachedStands }
+    ensures shaped { ReachedAreShaped }
+{}
+
+/// The bytes of states of a plan's shape, whatever the data: no two are alike, and none is longer than
+/// those that the plan's states have.
+pub fn bytes_of_shapes()
+    ensures spelling { OneShape }
+    ensures bounded { ShapesAreShort }
 {}
 
 /// Two lists of the same triples have the same states, bytes and pages.
