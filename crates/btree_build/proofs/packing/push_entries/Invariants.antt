@@ -1,8 +1,0 @@
-use Rattle.std.proofs.Common.{◌≡◌, ◌++◌, drop}
-use Rattle.btree_build.specs.Lists.{list_bytes}
-use Rattle.btree_build.proofs.packing.push_entries.Given as goal
-
-abbrev pub invariant-loop-entry : goal.invariant-loop-entry
-invariant-loop-entry l = record {
-  done : l.out.items ++ list_bytes (drop l.entry-index l.entries) ≡ l.initial.out.items ++ list_bytes l.entries;
-}

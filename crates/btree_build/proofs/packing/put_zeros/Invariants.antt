@@ -1,7 +1,0 @@
-use Rattle.std.proofs.Common.{◌≡◌, ◌++◌, ◌-◌, replicate}
-use Rattle.btree_build.proofs.packing.put_zeros.Given as goal
-
-abbrev pub invariant-loop-place : goal.invariant-loop-place
-invariant-loop-place l = record {
-  done : l.out ++ replicate (l.count - l.place) 0 ≡ l.initial.out ++ replicate l.count 0;
-}
