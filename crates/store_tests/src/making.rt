@@ -128,11 +128,12 @@ pub(crate) fn with_byte(
     Ok(changed)
 }
 
-/// Puts the tag of a block of that number behind its payload.
-fn put_tag(number: usize, block: &mut [u8]) {
-    if number <= 4_294_967_295 && block.len() >= 4096 {
-        let tag = tag(number as u32, &block[..4080]);
-        block[4080..4096].copy_from_slice(&tag);
+/// The tag of a block of that number, which begins with these bytes.
+fn tag_of(number: usize, block: &[u8]) -> [u8; 16] {
+    if number <= 4_294_967_295 && block.len() >= 4080 {
+        tag(number as u32, &block[..4080])
+    } else {
+        [0; 16]
     }
 }
 
@@ -153,7 +154,8 @@ pub(crate) fn put_tags_from(image: &mut Vec<u8>, first: usize) {
     for number in first..image.len() / 4096 {
         let at = 4096 * number;
         if at + 4096 <= image.len() {
-            put_tag(number, &mut image[at..at + 4096]);
+            let found = tag_of(number, &image[at..at + 4096]);
+            image[at + 4080..at + 4096].copy_from_slice(&found);
         }
     }
 }
