@@ -89,7 +89,7 @@ impl Wanted {
 impl Asked {
     /// The order in which the triples that are asked for stand side by side: that in which the
     /// places that have terms come first.
-    pub(crate) fn order(&self) -> u8
+    pub fn order(&self) -> u8
         ensures is { index_numbered result ≡ index_for self.now }
         ensures few { result ≤ 2 }
     {
@@ -129,7 +129,7 @@ impl Asked {
     }
 
     /// The front of the keys of the triples that are asked for, or nothing where none will do.
-    pub(crate) fn prefix(&self) -> Option<Prefix>
+    pub fn prefix(&self) -> Option<Prefix>
         ensures len { IfSome result (λ x. x.len ≤ 3) }
         ensures asks { IfSome result (λ x. (key : Ids) → HasPrefix x key ↔ IsTrue (asks_for self.now (ids_of_key (index_for self.now) key))) }
         ensures nothing { IfNone result ((ids : Ids) → asks_for self.now ids ≡ false) }

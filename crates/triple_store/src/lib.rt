@@ -9,5 +9,6 @@ mod store;
 
 pub use asked::{Asked, Wanted};
 pub use law::stores_stay;
+pub use list::triple_of;
 pub use range::Range;
 pub use store::{Info, OpenFault, Store, Unopened};

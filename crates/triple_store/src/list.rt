@@ -9,9 +9,9 @@ use btree_scan::Tree;
 use sage_outside::ReadFault;
 use term_core::IdTriple;
 
-/// The triple that has a key.
+/// The triple that has a key in the order of that number.
 #[tactic(auto, using(crate::proofs::Orders::third))]
-fn triple_of(order: u8, key: &IdTriple) -> IdTriple
+pub fn triple_of(order: u8, key: &IdTriple) -> IdTriple
     ensures is { result ≡ ids_of_key (index_numbered order) key.now }
     ensures below { (n : ℕ) → key.now.s < n → key.now.p < n → key.now.o < n → IsBelow n result }
 {

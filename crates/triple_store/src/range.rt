@@ -25,11 +25,11 @@ use sage_outside::{Blocks, ReadFault, StoreFault};
 use std::alloc::Global;
 use term_core::{IdTriple, Pattern, Place};
 
-/// Triples that stand side by side in one of a store's three lists: those at the places from `first`
-/// up to `end`, the latter not counted, of the list of the order.
+/// Triples that stand side by side in one of a store's three orders: those at the places from `first`
+/// up to `end`, the latter not counted, in the tree of that order.
 #[derive(Clone, Copy, Debug, PartialEq, Eq)]
 pub struct Range {
-    /// The order of the list: 0 by subject, predicate and object, 1 by predicate, object and subject,
+    /// The order: 0 by subject, predicate and object, 1 by predicate, object and subject,
     /// 2 by object, subject and predicate.
     pub order: u8,
     /// The first place.
@@ -60,7 +60,7 @@ impl Range {
         self.end - self.first
     }
 
-    /// The place in the range of a place of the list, or nothing where that is not in the range.
+    /// The place in the range of a place in the order, or nothing where that is not in the range.
     fn place_at(&self, place: u32) -> Option<u32>
         ensures at { (k : ℕ) → result ≡ Some k → (self.now.first + k ≡ place) × (place < self.now.end) }
         ensures none { result ≡ None → self.now.first ≤ place → place < self.now.end → ⊥ }

@@ -364,11 +364,16 @@ impl<B: Blocks> Store<B> {
         entry(&list, &mut self.blocks, place)
     }
 
-    /// The place of the triple in an order's list, or `None` where it is not there.
-    pub(crate) fn place_in(&mut self, order: u8, t: &IdTriple) -> Result<Option<u32>, ReadFault>
+    /// The place of the triple in an order's list, or `None` where it is not there: a search in the
+    /// order's tree. At most 4 blocks are read.
+    ///
+    /// `Blocks` comes only where a read failed, and `Damaged` only where in format 2 the tag of that
+    /// block does not agree.
+    pub fn place_in(&mut self, order: u8, t: &IdTriple) -> Result<Option<u32>, ReadFault>
         requires order { order ≤ 2 }
         ensures kept { IsKept self.old self.new }
         ensures cost { HasRead self.old.device self.new.device 4 }
+        ensures within { (place : ℕ) → result ≡ Ok (Some place) → place < self.old.header.triples }
         ensures failed { result ≡ Err ReadFault.Blocks → Rose self.old.device.faults self.new.device.faults }
         ensures there { (image : List ℕ) (place : ℕ) → Tells self.old.device.image image → result ≡ Ok (Some place)
             → HasEntry self.old.header order t.now image place }
