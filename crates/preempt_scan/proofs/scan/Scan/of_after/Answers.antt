@@ -1,0 +1,13 @@
+use Rattle.preempt_scan.proofs.Asked.{scan_of, scan_none, goes_in_ok, none_in}
+use Rattle.preempt_scan.proofs.scan.Scan.of_after.Goals as goal
+
+pub returns-in-None-clause-found : goal.returns-in-None-clause-found
+returns-in-None-clause-found g c = λ L terms ids p row table shown asked.
+    none_in L terms ids p row c.order-order.result c.args.t.now table.rising
+    (scan_none L terms ids c.order-order.result c.args.asked.now p row c.in-None.ensures.nothing c.order-order.ensures.is table asked)
+
+pub returns-in-Some-clause-found : goal.returns-in-Some-clause-found
+returns-in-Some-clause-found g c = λ L terms ids p row table shown asked.
+    goes_in_ok L terms ids p row c.order-order.result c.in-Some.prefix c.args.t.now c.after.result table.rising
+    (λ place. scan_of ids c.order-order.result c.in-Some.prefix c.args.asked.now c.in-Some.ensures.asks c.order-order.ensures.is L terms p row place table asked)
+    (c.after.ensures.behind terms ids shown)
