@@ -1,0 +1,4 @@
+pub mod Set
+pub mod Rows
+pub mod Binding
+pub mod Asking

@@ -1,0 +1,4 @@
+pub mod Data
+pub mod Cells
+pub mod Owns
+pub mod Laws
