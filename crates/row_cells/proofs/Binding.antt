@@ -109,7 +109,7 @@ module _ (names : List Name) (words : Words) (once : IsOnce names) (rising : IsS
   bind_cells cells k name id Free are h e d own = bind_free cells k name id are h e
   bind_cells cells k name id (Id i) are h e d own =
       let here : i < length words.terms = subst (IsCellIn (length words.terms) (length words.given) (length words.made)) d
-          (within_at (length words.terms) (length words.given) (length words.made) k cells are.within) in
+      (within_at (length words.terms) (length words.given) (length words.made) k cells are.within) in
       tested cells (i == id) (same_term (term_numbered words.terms i) (term_numbered words.terms id)) are (ids_and_terms words.terms rising i id here h)
   bind_cells cells k name id (Given g) are h e d own =
       bind_own cells name (term_numbered words.terms id) (term_numbered words.given g) are (own (term_numbered words.given g) refl (λ i q. cc))
@@ -180,9 +180,9 @@ cells_extend names words s cells ids once rising b are h agree =
     let a = all_true _ _ _ agree in
     let first = bind_means names words once rising s.subject cells ids.s b.0 are h.s (own_agrees names words once rising s.subject cells (term_numbered words.terms ids.s) b.0 a.0) in
     let second = then_bind names words once rising s.predicate cells _ _ ids.p b.1.0 h.p
-        (own_agrees names words once rising s.predicate cells (term_numbered words.terms ids.p) b.1.0 a.1) first in
+    (own_agrees names words once rising s.predicate cells (term_numbered words.terms ids.p) b.1.0 a.1) first in
     let third = then_bind names words once rising s.object cells _ _ ids.o b.1.1 h.o
-        (own_agrees names words once rising s.object cells (term_numbered words.terms ids.o) b.1.1 a.2) second in
+    (own_agrees names words once rising s.object cells (term_numbered words.terms ids.o) b.1.1 a.2) second in
     third.means
 
 bound_within : (terms given made slot id : ℕ) (c : Cell) (cells after : List Cell) → AreCellsIn terms given made cells → id < terms → bind_cell slot id c cells ≡ Some after

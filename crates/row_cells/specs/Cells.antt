@@ -50,7 +50,7 @@ abbrev pub pattern_of : List Name → List Term → PatternSlots → Pattern
 pattern_of names given s = record {
   subject = position_of names given s.subject;
   predicate = position_of names given s.predicate;
-  object = position_of names given s.object
+  object = position_of names given s.object;
 }
 
 -- the cell that stands at a position: a term of the plan, or what the row has under the name
