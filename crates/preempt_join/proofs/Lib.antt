@@ -1,0 +1,10 @@
+pub mod Entries
+pub mod Picked
+pub mod Moves
+pub mod Ends
+pub mod Found
+pub mod Arms
+pub mod Calls
+pub mod Saved
+pub mod Costs
+pub mod Rooted
