@@ -10,6 +10,8 @@ mod running;
 #[cfg(test)]
 mod store_tests;
 #[cfg(test)]
+mod trial_tests;
+#[cfg(test)]
 mod try_tests;
 #[cfg(test)]
 mod words_tests;

@@ -11,3 +11,4 @@ pub mod Tries
 pub mod Builds
 pub mod Informs
 pub mod Runs
+pub mod Trials

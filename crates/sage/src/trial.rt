@@ -1,7 +1,9 @@
 // The generated data of a trial.
-ghost use Rattle.std.specs.Prelude.{◌≡◌, ◌<◌, ◌%◌, ◌++◌, [], ◌∷◌, IfOk, OnOk};
+ghost use Rattle.std.specs.Prelude.{◌≡◌, ◌<◌, ◌%◌, ◌++◌, [], ◌∷◌, All, IfOk, OnOk};
 ghost use Rattle.std.specs.Fmt.{decimal};
 ghost use Rattle.term_core.specs.Numbers.{xsd_integer};
+ghost use Rattle.term_core.specs.Order.{IsAllowed};
+ghost use Rattle.term_core.specs.Spelling.{AreSpelled};
 ghost use Rattle.sage.specs.Trial.{trial_node, next_triple, value_triple, trial_data};
 
 use std::alloc::Global;
@@ -67,8 +69,11 @@ fn push_number(alloc: Global, out: &mut Items<Triple>, n: u32, i: u32) -> Result
 
 /// The triples of a trial of `n` numbers, two for each: number `i` has the next number (7 i + 1) mod
 /// n, and the value i mod 10, an xsd:integer.
+#[tactic(auto, using(crate::proofs::Trials::all_allowed, crate::proofs::Trials::all_spelled))]
 pub fn trial_triples(alloc: Global, n: u32) -> Result<Items<Triple>, Memory>
-    ensures { IfOk result (λ triples. triples ≡ trial_data n) }
+    ensures is { IfOk result (λ triples. triples ≡ trial_data n) }
+    ensures allowed { IfOk result (All IsAllowed) }
+    ensures spelled { IfOk result (All AreSpelled) }
 {
     let mut triples = Items::new(alloc);
     for i in 0..n {
